@@ -1,0 +1,4 @@
+pub mod Points
+pub mod Balls
+pub mod Roots
+pub mod Triangles
