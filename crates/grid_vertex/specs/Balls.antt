@@ -1,5 +1,5 @@
 -- When one ball contains another.
-use Rattle.std.specs.Prelude.{ℕ, ◌-◌, Bool, ◌&&◌, nat_le}
+use Rattle.std.specs.Prelude.{◌-◌, Bool, ◌&&◌, nat_le}
 use Rattle.grid_vertex.specs.declared.balls.Ball.{Ball}
 use Rattle.grid_vertex.specs.Points.{square, distance_squared_of}
 

@@ -1,7 +1,7 @@
 //! Where a point lies, and how far it is from another.
 
 ghost use Rattle.std.specs.Prelude.{◌≡◌, ◌*◌, ◌≤◌};
-ghost use Rattle.grid_vertex.specs.Points.{IsNearGrid, is_in_grid, is_within, square, distance_squared_of};
+ghost use Rattle.grid_vertex.specs.Points.{IsNearGrid, is_in_grid, is_within, gap, square, distance_squared_of};
 
 use super::Point;
 
@@ -21,10 +21,14 @@ pub fn in_grid(point: Point) -> bool
     is_on_axis(point.x) && is_on_axis(point.y) && is_on_axis(point.z)
 }
 
-fn square_of(length: u32) -> u64
-    ensures { result ≡ square length }
+// The square of how far apart two coordinates are.
+fn axis_squared(a: i32, b: i32) -> u64
+    requires { gap a b ≤ 4194304 }
+    ensures value { result ≡ square (gap a b) }
+    ensures bound { result ≤ 17592186044416 }
 {
-    u64::from(length) * u64::from(length)
+    let apart = u64::from(a.abs_diff(b));
+    apart * apart
 }
 
 /// The square of the distance of two points whose coordinates are in -2,097,152 to 2,097,152.
@@ -34,5 +38,5 @@ pub fn distance_squared(p: Point, q: Point) -> u64
     requires second { IsNearGrid q }
     ensures { result ≡ distance_squared_of p q }
 {
-    square_of(p.x.abs_diff(q.x)) + square_of(p.y.abs_diff(q.y)) + square_of(p.z.abs_diff(q.z))
+    axis_squared(p.x, q.x) + axis_squared(p.y, q.y) + axis_squared(p.z, q.z)
 }
