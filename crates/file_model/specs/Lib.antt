@@ -1,0 +1,6 @@
+pub mod Numbers
+pub mod Lists
+pub mod Spelling
+pub mod Rules
+pub mod Reading
+pub mod Answers

@@ -1,0 +1,13 @@
+//! What a patch file is: its records, its one spelling, its rules, and reading it with the first fault.
+//!
+//! Code is only the records; the definitions stand in `specs/`, and `docs/FORMAT.md` tells them in
+//! prose.
+#![tactic(auto)]
+
+mod faults;
+mod fields;
+mod refusals;
+
+pub use faults::FileFault;
+pub use fields::{Node, PatchField, Try};
+pub use refusals::{ReadRefusal, WriteFault};
