@@ -1,0 +1,5 @@
+pub mod Graph
+pub mod Walks
+pub mod Nets
+pub mod Frames
+pub mod Accepted
