@@ -3,3 +3,4 @@ pub mod Walks
 pub mod Nets
 pub mod Frames
 pub mod Accepted
+pub mod Meshes
