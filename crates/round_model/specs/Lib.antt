@@ -1,0 +1,5 @@
+pub mod Scores
+pub mod Order
+pub mod Tries
+pub mod Rounds
+pub mod Refiners
