@@ -5,7 +5,7 @@ use Rattle.std.specs.Int.{w32, cast_signed, cast_unsigned, byte_at, bytes_low_fi
 use Rattle.std.proofs.Math.Nat.{div-div-eq-div-mul, pow-succ'}
 use Rattle.std.proofs.lemmas.Bool.{cases_lt}
 use Rattle.std.proofs.lemmas.Int.{to_z-of_z, of_z-to_z}
-use Rattle.std.proofs.lemmas.List.{take_all, take-append-drop, length-append, length-take, get_or-drop, get_or-take, get_or_past}
+use Rattle.std.proofs.lemmas.List.{take_all, length-take, get_or-drop, get_or-take, get_or_past}
 use Rattle.byteorder.specs.Endian.{little_from}
 use Rattle.byteorder.specs.Numbers.{little_from-cons, length-bytes_low_first, little_number-reads_back, little_from-lt, little_from-append}
 use Rattle.file_model.specs.Numbers.{number_text, number_in, signed_text, signed_in}
