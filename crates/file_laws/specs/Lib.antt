@@ -3,3 +3,4 @@ pub mod Units
 pub mod Steps
 pub mod Origins
 pub mod Points
+pub mod Bodies

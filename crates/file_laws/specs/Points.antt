@@ -14,7 +14,7 @@ use Rattle.file_model.specs.Reading.{many_at, point_in, shifted_in, point_at, sh
 use Rattle.file_model.specs.Rules.{is_near_origin, is_narrow}
 use Rattle.file_laws.specs.Numbers.{IsBytes, IsBytes-drop, length-number_text, number_in-text, number_in-fits}
 use Rattle.file_laws.specs.Units.{regroup_three, second_of_three, third_of_three, three_numbers-in, length-point_text, point_in-text, point_text-in}
-use Rattle.file_laws.specs.Steps.{step_ok, test_ok, rule_ok, ok_is, Takes, Takes-then, Takes-front, all_both, all_left, all_right, IsUnit, many_take, many_again}
+use Rattle.file_laws.specs.Steps.{step_ok, test_ok, rule_ok, ok_is, Takes, Takes-then, Takes-front, all_both, all_left, all_right, UnitTakes, UnitAgain, many_take, many_again}
 use Rattle.file_laws.specs.Origins.{is_past, past_back, past_gap, past_le, origin_below, origin_in_grid, IsReached, origin_reached, origin_is}
 
 -- ---- offsets
@@ -67,38 +67,44 @@ shifted_in-is origin bytes fits =
 
 -- ---- one point
 
-pub point_unit : (patch end : ℕ) → IsUnit (point_at patch end) point_text is_in_grid
+point_takes : (patch end : ℕ) → UnitTakes (point_at patch end) point_text is_in_grid
 unfolding point_at
-point_unit patch end = record {
-  takes = λ k bytes x fits e.
-      let t = test_ok (ltb (length bytes) 12) (Truncated end) _ x e in
-      let r = rule_ok (is_in_grid (point_in bytes)) (PointOutOfGrid patch k) _ x t.1 in
-      let made : Point × List ℕ = (point_in bytes, drop 12 bytes) in
-      let took = Takes-front 12 bytes (point_text (point_in bytes)) fits (point_text-in bytes fits (ltb-false (length bytes) 12 t.0)) in
-      subst (λ (y : Point × List ℕ). Takes bytes (point_text y.0) y.1 × IsTrue (is_in_grid y.0)) (ok_is made x r.1) (took, r.0);
-  again = λ k p rest h.
-      let long : ltb (length (point_text p ++ rest)) 12 ≡ false = le-ltb _ 12 (omega (arith, length-append (point_text p) rest, length-point_text p)) in
-      let back = point_in-text p rest h in
-      rw (long, ap is_in_grid back ∙ h, back, drop_at (point_text p) rest 12 (length-point_text p)) refl;
-}
+point_takes patch end k bytes x fits e =
+    let t = test_ok (ltb (length bytes) 12) (Truncated end) _ x e in
+    let r = rule_ok (is_in_grid (point_in bytes)) (PointOutOfGrid patch k) _ x t.1 in
+    let made : Point × List ℕ = (point_in bytes, drop 12 bytes) in
+    let took = Takes-front 12 bytes (point_text (point_in bytes)) fits (point_text-in bytes fits (ltb-false (length bytes) 12 t.0)) in
+    subst (λ (y : Point × List ℕ). Takes bytes (point_text y.0) y.1 × IsTrue (is_in_grid y.0)) (ok_is made x r.1) (took, r.0)
 
-pub shifted_unit : (origin : Point) (patch end : ℕ) → IsUnit (shifted_at origin patch end) (offset_text origin) (λ (p : Point). is_in_grid p && is_offset origin p)
+point_again : (patch end : ℕ) → UnitAgain (point_at patch end) point_text is_in_grid
+unfolding point_at
+point_again patch end k p rest h =
+    let long : ltb (length (point_text p ++ rest)) 12 ≡ false = le-ltb _ 12 (omega (arith, length-append (point_text p) rest, length-point_text p)) in
+    let back = point_in-text p rest h in
+    rw (long, ap is_in_grid back ∙ h, back, drop_at (point_text p) rest 12 (length-point_text p)) refl
+
+-- a point of the grid at an offset from the origin
+abbrev is_grid_offset : Point → Point → Bool
+is_grid_offset origin p = is_in_grid p && is_offset origin p
+
+shifted_takes : (origin : Point) (patch end : ℕ) → UnitTakes (shifted_at origin patch end) (offset_text origin) (is_grid_offset origin)
 unfolding shifted_at
-shifted_unit origin patch end = record {
-  takes = λ k bytes x fits e.
-      let p = shifted_in origin bytes in
-      let t = test_ok (ltb (length bytes) 6) (Truncated end) _ x e in
-      let r = rule_ok (is_in_grid p) (PointOutOfGrid patch k) _ x t.1 in
-      let made : Point × List ℕ = (p, drop 6 bytes) in
-      let took = Takes-front 6 bytes (offset_text origin p) fits (offset_text-in origin bytes fits (ltb-false (length bytes) 6 t.0)) in
-      let passes = and_from (is_in_grid p) (is_offset origin p) r.0 (shifted_in-is origin bytes fits) in
-      subst (λ (y : Point × List ℕ). Takes bytes (offset_text origin y.0) y.1 × IsTrue (is_in_grid y.0 && is_offset origin y.0)) (ok_is made x r.1) (took, passes);
-  again = λ k p rest h.
-      let parts = and_parts (is_in_grid p) (is_offset origin p) h in
-      let long : ltb (length (offset_text origin p ++ rest)) 6 ≡ false = le-ltb _ 6 (omega (arith, length-append (offset_text origin p) rest, length-offset_text origin p)) in
-      let back = shifted_in-text origin p rest parts.1 in
-      rw (long, ap is_in_grid back ∙ parts.0, back, drop_at (offset_text origin p) rest 6 (length-offset_text origin p)) refl;
-}
+shifted_takes origin patch end k bytes x fits e =
+    let p = shifted_in origin bytes in
+    let t = test_ok (ltb (length bytes) 6) (Truncated end) _ x e in
+    let r = rule_ok (is_in_grid p) (PointOutOfGrid patch k) _ x t.1 in
+    let made : Point × List ℕ = (p, drop 6 bytes) in
+    let took = Takes-front 6 bytes (offset_text origin p) fits (offset_text-in origin bytes fits (ltb-false (length bytes) 6 t.0)) in
+    let passes = and_from (is_in_grid p) (is_offset origin p) r.0 (shifted_in-is origin bytes fits) in
+    subst (λ (y : Point × List ℕ). Takes bytes (offset_text origin y.0) y.1 × IsTrue (is_grid_offset origin y.0)) (ok_is made x r.1) (took, passes)
+
+shifted_again : (origin : Point) (patch end : ℕ) → UnitAgain (shifted_at origin patch end) (offset_text origin) (is_grid_offset origin)
+unfolding shifted_at
+shifted_again origin patch end k p rest h =
+    let parts = and_parts (is_in_grid p) (is_offset origin p) h in
+    let long : ltb (length (offset_text origin p ++ rest)) 6 ≡ false = le-ltb _ 6 (omega (arith, length-append (offset_text origin p) rest, length-offset_text origin p)) in
+    let back = shifted_in-text origin p rest parts.1 in
+    rw (long, ap is_in_grid back ∙ parts.0, back, drop_at (offset_text origin p) rest 6 (length-offset_text origin p)) refl
 
 -- ---- the points of a body
 
@@ -135,18 +141,18 @@ offsets_text version points v = rw v refl
 
 plain_take : (version count patch end : ℕ) (bytes : List ℕ) (x : List Point × List ℕ) → IsBytes bytes → eqb version 2 ≡ false → many_at (point_at patch end) count 0 bytes ≡ Ok x → TakesPoints version count bytes x
 plain_take version count patch end bytes x fits v e =
-    let m = many_take (point_at patch end) point_text is_in_grid (point_unit patch end) count 0 bytes x fits e in
+    let m = many_take (point_at patch end) point_text is_in_grid (point_takes patch end) count 0 bytes x fits e in
     record { takes = rw (plain_text version x.0 v) m.takes; are = record { in_grid = m.pass; narrow = rw v refl; counted = m.count } }
 
-shifted_take : (version count patch end : ℕ) (bytes : List ℕ) (x : List Point × List ℕ) → IsBytes bytes → eqb version 2 ≡ true → shifted_points_at count patch end bytes ≡ Ok x → TakesPoints version count bytes x
+offsets_take : (version count patch end : ℕ) (bytes : List ℕ) (x : List Point × List ℕ) → IsBytes bytes → eqb version 2 ≡ true → shifted_points_at count patch end bytes ≡ Ok x → TakesPoints version count bytes x
 unfolding shifted_points_at
-shifted_take version count patch end bytes x fits v e =
+offsets_take version count patch end bytes x fits v e =
     let origin = point_in bytes in
     let t = test_ok (ltb (length bytes) 12) (Truncated end) _ x e in
     let a = step_ok (many_at (shifted_at origin patch end) count 0 (drop 12 bytes)) (tight origin patch) x t.1 in
     let c = tight_ok origin patch a.0 x a.2 in
     let front = Takes-front 12 bytes (point_text origin) fits (point_text-in bytes fits (ltb-false (length bytes) 12 t.0)) in
-    let m = many_take (shifted_at origin patch end) (offset_text origin) (λ (p : Point). is_in_grid p && is_offset origin p) (shifted_unit origin patch end) count 0 (drop 12 bytes) a.0 front.rest_fits a.1 in
+    let m = many_take (shifted_at origin patch end) (offset_text origin) (is_grid_offset origin) (shifted_takes origin patch end) count 0 (drop 12 bytes) a.0 front.rest_fits a.1 in
     let offsets = all_right is_in_grid (is_offset origin) a.0.0 m.pass in
     let least = origin_is origin a.0.0 (all_right (is_near_origin origin) (is_past origin) a.0.0 offsets) c.0 in
     let took : Takes bytes (point_text origin ++ flat_map (offset_text origin) a.0.0) a.0.1 = Takes-then bytes (point_text origin) (drop 12 bytes) (flat_map (offset_text origin) a.0.0) a.0.1 front m.takes in
@@ -161,13 +167,13 @@ pub points_take : (version count patch end : ℕ) (bytes : List ℕ) (x : List P
 unfolding points_at
 points_take version count patch end bytes x fits e =
     elim (cases_Bool (eqb version 2)) [
-      | inl v ↦ shifted_take version count patch end bytes x fits v (rw v at e)
+      | inl v ↦ offsets_take version count patch end bytes x fits v (rw v at e)
       | inr v ↦ plain_take version count patch end bytes x fits v (rw v at e)
     ]
 
-shifted_again : (version patch end : ℕ) (points : List Point) (rest : List ℕ) → eqb version 2 ≡ true → IsTrue (list_all is_in_grid points) → IsTrue (is_narrow version points) → 1 ≤ length points → shifted_points_at (length points) patch end (points_text version points ++ rest) ≡ Ok (points, rest)
+offsets_again : (version patch end : ℕ) (points : List Point) (rest : List ℕ) → eqb version 2 ≡ true → IsTrue (list_all is_in_grid points) → IsTrue (is_narrow version points) → 1 ≤ length points → shifted_points_at (length points) patch end (points_text version points ++ rest) ≡ Ok (points, rest)
 unfolding shifted_points_at
-shifted_again version patch end points rest v in_grid narrow some_point =
+offsets_again version patch end points rest v in_grid narrow some_point =
     let origin = origin_of points in
     let behind = flat_map (offset_text origin) points in
     let near : IsTrue (list_all (is_near_origin origin) points) = rw v at narrow in
@@ -175,7 +181,7 @@ shifted_again version patch end points rest v in_grid narrow some_point =
     let spelled : points_text version points ++ rest ≡ point_text origin ++ (behind ++ rest) = ap (λ (t : List ℕ). t ++ rest) (offsets_text version points v) ∙ append_assoc (point_text origin) behind rest in
     let long : ltb (length (point_text origin ++ (behind ++ rest))) 12 ≡ false = le-ltb _ 12 (omega (arith, length-append (point_text origin) (behind ++ rest), length-point_text origin)) in
     let back : point_in (point_text origin ++ (behind ++ rest)) ≡ origin = point_in-text origin (behind ++ rest) (origin_in_grid points in_grid) in
-    let read : many_at (shifted_at origin patch end) (length points) 0 (behind ++ rest) ≡ Ok (points, rest) = many_again (shifted_at origin patch end) (offset_text origin) (λ (p : Point). is_in_grid p && is_offset origin p) (shifted_unit origin patch end) 0 points rest passes in
+    let read : many_at (shifted_at origin patch end) (length points) 0 (behind ++ rest) ≡ Ok (points, rest) = many_again (shifted_at origin patch end) (offset_text origin) (is_grid_offset origin) (shifted_again origin patch end) 0 points rest passes in
     ap (shifted_points_at (length points) patch end) spelled
     ∙ rw (long, back, drop_at (point_text origin) (behind ++ rest) 12 (length-point_text origin), read) (tight_again origin patch (points, rest) (origin_reached points some_point))
 
@@ -183,6 +189,6 @@ pub points_again : (version patch end : ℕ) (points : List Point) (rest : List 
 unfolding points_at
 points_again version patch end points rest in_grid narrow some_point =
     elim (cases_Bool (eqb version 2)) [
-      | inl v ↦ rw v (shifted_again version patch end points rest v in_grid narrow some_point)
-      | inr v ↦ rw (v, plain_text version points v) (many_again (point_at patch end) point_text is_in_grid (point_unit patch end) 0 points rest in_grid)
+      | inl v ↦ rw v (offsets_again version patch end points rest v in_grid narrow some_point)
+      | inr v ↦ rw (v, plain_text version points v) (many_again (point_at patch end) point_text is_in_grid (point_again patch end) 0 points rest in_grid)
     ]

@@ -70,9 +70,12 @@ all_right p q xs h = all_weaken (λ x. p x && q x) q (λ x k. (and_parts (p x) (
 -- ---- many units one after the other
 
 -- a unit that was read is spelled so and passes the test
-pub record IsUnit {A : Type 0} (unit : ℕ → List ℕ → Result (A × List ℕ) FileFault) (text : A → List ℕ) (passes : A → Bool) : Type 0 where
-  pub takes : (k : ℕ) (bytes : List ℕ) (x : A × List ℕ) → IsBytes bytes → unit k bytes ≡ Ok x → Takes bytes (text x.0) x.1 × IsTrue (passes x.0)
-  pub again : (k : ℕ) (x : A) (rest : List ℕ) → IsTrue (passes x) → unit k (text x ++ rest) ≡ Ok (x, rest)
+abbrev pub UnitTakes : {A : Type 0} → (ℕ → List ℕ → Result (A × List ℕ) FileFault) → (A → List ℕ) → (A → Bool) → Type 0
+UnitTakes {A} unit text passes = (k : ℕ) (bytes : List ℕ) (x : A × List ℕ) → IsBytes bytes → unit k bytes ≡ Ok x → Takes bytes (text x.0) x.1 × IsTrue (passes x.0)
+
+-- a spelled unit that passes the test is read
+abbrev pub UnitAgain : {A : Type 0} → (ℕ → List ℕ → Result (A × List ℕ) FileFault) → (A → List ℕ) → (A → Bool) → Type 0
+UnitAgain {A} unit text passes = (k : ℕ) (x : A) (rest : List ℕ) → IsTrue (passes x) → unit k (text x ++ rest) ≡ Ok (x, rest)
 
 -- what many units of one kind took
 pub record TakesMany {A : Type 0} (text : A → List ℕ) (passes : A → Bool) (n : ℕ) (bytes : List ℕ) (x : List A × List ℕ) : Type 0 where
@@ -80,17 +83,17 @@ pub record TakesMany {A : Type 0} (text : A → List ℕ) (passes : A → Bool) 
   pub count : length x.0 ≡ n
   pub pass : IsTrue (list_all passes x.0)
 
-pub many_take : {A : Type 0} (unit : ℕ → List ℕ → Result (A × List ℕ) FileFault) (text : A → List ℕ) (passes : A → Bool) → IsUnit unit text passes
+pub many_take : {A : Type 0} (unit : ℕ → List ℕ → Result (A × List ℕ) FileFault) (text : A → List ℕ) (passes : A → Bool) → UnitTakes unit text passes
     → (n k : ℕ) (bytes : List ℕ) (x : List A × List ℕ) → IsBytes bytes → many_at unit n k bytes ≡ Ok x → TakesMany text passes n bytes x
 unfolding many_at
-many_take {A} unit text passes u zero k bytes x fits e =
+many_take {A = A} unit text passes takes zero k bytes x fits e =
     let nothing : List A × List ℕ = ([], bytes) in
     subst (TakesMany text passes 0 bytes) (ok_is nothing x e) (record { takes = record { parts = refl; rest_fits = fits }; count = refl; pass = refl })
-many_take {A} unit text passes u (suc n) k bytes x fits e =
+many_take {A = A} unit text passes takes (suc n) k bytes x fits e =
     let a = step_ok (unit k bytes) (λ first. many_at unit n (k + 1) first.1 >>= λ others. Ok (first.0 ∷ others.0, others.1)) x e in
     let b = step_ok (many_at unit n (k + 1) a.0.1) (λ others. Ok (a.0.0 ∷ others.0, others.1)) x a.2 in
-    let first = u.takes k bytes a.0 fits a.1 in
-    let others = many_take unit text passes u n (k + 1) a.0.1 b.0 first.0.rest_fits b.1 in
+    let first = takes k bytes a.0 fits a.1 in
+    let others = many_take unit text passes takes n (k + 1) a.0.1 b.0 first.0.rest_fits b.1 in
     let made : List A × List ℕ = (a.0.0 ∷ b.0.0, b.0.1) in
     subst (TakesMany text passes (suc n) bytes) (ok_is made x b.2) (record {
       takes = rw flat_map-cons (Takes-then bytes (text a.0.0) a.0.1 (flat_map text b.0.0) b.0.1 first.0 others.takes);
@@ -98,11 +101,11 @@ many_take {A} unit text passes u (suc n) k bytes x fits e =
       pass = and_from (passes a.0.0) (list_all passes b.0.0) first.1 others.pass;
     })
 
-pub many_again : {A : Type 0} (unit : ℕ → List ℕ → Result (A × List ℕ) FileFault) (text : A → List ℕ) (passes : A → Bool) → IsUnit unit text passes
+pub many_again : {A : Type 0} (unit : ℕ → List ℕ → Result (A × List ℕ) FileFault) (text : A → List ℕ) (passes : A → Bool) → UnitAgain unit text passes
     → (k : ℕ) (xs : List A) (rest : List ℕ) → IsTrue (list_all passes xs) → many_at unit (length xs) k (flat_map text xs ++ rest) ≡ Ok (xs, rest)
 unfolding many_at
-many_again unit text passes u k [] rest h = refl
-many_again unit text passes u k (x ∷ xs) rest h =
+many_again unit text passes again k [] rest h = refl
+many_again unit text passes again k (x ∷ xs) rest h =
     let parts = and_parts (passes x) (list_all passes xs) h in
     let regrouped : flat_map text (x ∷ xs) ++ rest ≡ text x ++ (flat_map text xs ++ rest) = append_assoc (text x) (flat_map text xs) rest in
-    ap (many_at unit (suc (length xs)) k) regrouped ∙ rw (u.again k x (flat_map text xs ++ rest) parts.0, many_again unit text passes u (k + 1) xs rest parts.1) refl
+    ap (many_at unit (suc (length xs)) k) regrouped ∙ rw (again k x (flat_map text xs ++ rest) parts.0, many_again unit text passes again (k + 1) xs rest parts.1) refl

@@ -1,8 +1,9 @@
 -- A point, a node, a patch field and a triangle's corners are spelled by their bytes, and bytes are
 -- the spelling of what they say.
-use Rattle.std.proofs.Common.{◌≡◌, ℕ, ◌+◌, ◌^◌, ◌<◌, ◌≤◌, true, ◌&&◌, leb, ltb, List, ◌++◌, length, take, drop, refl, sym, ap, ◌∙◌, append_assoc, arith}
+use Rattle.std.proofs.Common.{◌≡◌, ℕ, ◌+◌, ◌*◌, ◌^◌, ◌<◌, ◌≤◌, true, ◌&&◌, leb, ltb, List, [], ◌∷◌, ◌++◌, length, take, drop, refl, sym, ap, ◌∙◌, append_assoc, arith}
 use Rattle.std.specs.Prelude.{ℤ, unsigned_abs, FitsSigned, IsTrue}
 use Rattle.std.specs.Int.{w32}
+use Rattle.std.specs.List.{flat_map}
 use Rattle.std.proofs.Math.Seq.{take-add}
 use Rattle.std.proofs.lemmas.Bool.{and_parts, leb-true, ltb-true}
 use Rattle.std.proofs.lemmas.Int.{fits_signed_from_abs}
@@ -31,6 +32,11 @@ both {a} {b} {c} {d} p q = ap (λ (x : List ℕ). x ++ c) p ∙ ap (λ (y : List
 -- a list of m + n from its first m, which a reader read at its place, and the n behind
 pub take_both : (m n : ℕ) (bytes front behind : List ℕ) → front ≡ take m bytes → behind ≡ take n (drop m bytes) → front ++ behind ≡ take (m + n) bytes
 take_both m n bytes front behind p q = both p q ∙ sym (take-add m n bytes)
+
+-- texts of one length each, one after the other
+pub length-each : {X : Type 0} (text : X → List ℕ) (width : ℕ) → ((x : X) → length (text x) ≡ width) → (xs : List X) → length (flat_map text xs) ≡ width * length xs
+length-each text width each [] = omega arith
+length-each text width each (x ∷ xs) = omega (arith, length-append (text x) (flat_map text xs), each x, length-each text width each xs)
 
 -- a spelling of three parts, as it stands before more
 pub regroup_three : (a b c rest : List ℕ) → (a ++ (b ++ c)) ++ rest ≡ a ++ (b ++ (c ++ rest))
