@@ -3,7 +3,7 @@ use Rattle.std.proofs.Common.{◌≡◌, ℕ, ◌+◌, ◌*◌, ◌≤◌, false
 use Rattle.std.specs.Prelude.{IsTrue, ◌==◌}
 use Rattle.std.specs.List.{flat_map, list_all}
 use Rattle.std.proofs.lemmas.Bool.{and_parts, and_from, cases_Bool, ltb-false, le-ltb, eqb-true, eq-eqb, not-true, not_from_false}
-use Rattle.std.proofs.lemmas.List.{append-nil, drop_at, length-append, nil_from_length}
+use Rattle.std.proofs.lemmas.List.{append-nil, drop_at, length-append}
 use Rattle.grid_vertex.specs.declared.points.Point.{Point}
 use Rattle.grid_vertex.specs.Points.{is_in_grid}
 use Rattle.grid_vertex.specs.Triangles.{is_flat_triangle}
@@ -15,7 +15,7 @@ use Rattle.file_model.specs.Reading.{◌>>=◌, many_at, corners_in, points_at, 
 use Rattle.file_model.specs.Rules.{is_narrow, are_corners, is_triangle, is_body, fits_field}
 use Rattle.file_laws.specs.Numbers.{IsBytes}
 use Rattle.file_laws.specs.Units.{length-each, length-point_text, FitsCorners-below, length-corners_text, corners_in-text, corners_text-in}
-use Rattle.file_laws.specs.Steps.{step_ok, test_ok, rule_ok, ok_is, Takes, Takes-then, Takes-front, UnitTakes, UnitAgain, many_take, many_again}
+use Rattle.file_laws.specs.Steps.{step_ok, test_ok, rule_ok, ok_is, Takes, Takes-then, Takes-front, front_is_all, UnitTakes, UnitAgain, many_take, many_again}
 use Rattle.file_laws.specs.Points.{length-offset_text, points_take, points_again}
 
 -- ---- triangles
@@ -102,12 +102,6 @@ pub record IsReadBody (version : ℕ) (f : PatchField) (bytes : List ℕ) (body 
   pub text : bytes ≡ body_text version body
   pub rules : IsTrue (is_body version body)
   pub fits : IsTrue (fits_field f body)
-
--- a list that is no longer than its front is the front
-front_is_all : (bytes front rest : List ℕ) → bytes ≡ front ++ rest → length bytes ≤ length front → bytes ≡ front
-front_is_all bytes front rest e short =
-    let nothing : rest ≡ [] = nil_from_length rest (omega (arith, ap length e, length-append front rest)) in
-    e ∙ ap (λ (t : List ℕ). front ++ t) nothing ∙ append-nil front
 
 -- found: a body that is read is spelled so, and is one
 pub body_text-in : (version patch : ℕ) (f : PatchField) (offset : ℕ) (bytes : List ℕ) (body : BodyLists) → IsBytes bytes → length bytes ≤ body_size version f → body_in version patch f offset bytes ≡ Ok body → IsReadBody version f bytes body

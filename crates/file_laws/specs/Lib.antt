@@ -4,3 +4,4 @@ pub mod Steps
 pub mod Origins
 pub mod Points
 pub mod Bodies
+pub mod Indexes

@@ -1,9 +1,9 @@
 -- A reading that ends well went well at each step, and what it took from the front is spelled as it says.
-use Rattle.std.proofs.Common.{◌≡◌, ℕ, zero, suc, ◌+◌, Bool, true, false, not, cond, ◌&&◌, List, [], ◌∷◌, ◌++◌, length, take, drop, Result, Ok, Err, refl, sym, ap, subst, ◌∙◌, append_assoc}
+use Rattle.std.proofs.Common.{◌≡◌, ℕ, zero, suc, ◌+◌, ◌≤◌, Bool, true, false, not, cond, ◌&&◌, List, [], ◌∷◌, ◌++◌, length, take, drop, Result, Ok, Err, refl, sym, ap, subst, ◌∙◌, append_assoc, arith}
 use Rattle.std.specs.Prelude.{IsTrue}
 use Rattle.std.specs.List.{flat_map, list_all}
 use Rattle.std.proofs.lemmas.Bool.{and_parts, and_from}
-use Rattle.std.proofs.lemmas.List.{take-append-drop}
+use Rattle.std.proofs.lemmas.List.{take-append-drop, append-nil, length-append, nil_from_length}
 use Rattle.std.proofs.lemmas.List.Concat.{flat_map-cons}
 use Rattle.file_model.specs.declared.faults.FileFault.{FileFault}
 use Rattle.file_model.specs.Reading.{◌>>=◌, many_at}
@@ -26,7 +26,8 @@ pub rule_ok : {A : Type 0} (b : Bool) (fault : FileFault) (r : Result A FileFaul
 rule_ok true fault r y e = (refl, e)
 rule_ok false fault r y e = absurd cc
 
-abbrev done : {A : Type 0} → A → Result A FileFault
+-- a reading that ended well
+abbrev pub done : {A : Type 0} → A → Result A FileFault
 done x = Ok x
 
 pub ok_is : {A : Type 0} (x y : A) → done x ≡ done y → x ≡ y
@@ -45,6 +46,12 @@ Takes-then a x b y c p q = record { parts = p.parts ∙ ap (λ (t : List ℕ). x
 -- the first n bytes are the text
 pub Takes-front : (n : ℕ) (bytes text : List ℕ) → IsBytes bytes → text ≡ take n bytes → Takes bytes text (drop n bytes)
 Takes-front n bytes text fits e = record { parts = sym (take-append-drop n bytes) ∙ ap (λ (t : List ℕ). t ++ drop n bytes) (sym e); rest_fits = IsBytes-drop n bytes fits }
+
+-- a list that is no longer than its front is the front
+pub front_is_all : (bytes front rest : List ℕ) → bytes ≡ front ++ rest → length bytes ≤ length front → bytes ≡ front
+front_is_all bytes front rest e short =
+    let nothing : rest ≡ [] = nil_from_length rest (omega (arith, ap length e, length-append front rest)) in
+    e ∙ ap (λ (t : List ℕ). front ++ t) nothing ∙ append-nil front
 
 -- ---- tests of all items
 
