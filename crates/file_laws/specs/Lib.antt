@@ -5,3 +5,4 @@ pub mod Origins
 pub mod Points
 pub mod Bodies
 pub mod Indexes
+pub mod Files

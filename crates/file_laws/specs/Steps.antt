@@ -26,6 +26,11 @@ pub rule_ok : {A : Type 0} (b : Bool) (fault : FileFault) (r : Result A FileFaul
 rule_ok true fault r y e = (refl, e)
 rule_ok false fault r y e = absurd cc
 
+-- a last test that was met
+pub last_ok : {A : Type 0} (b : Bool) (fault : FileFault) (x y : A) → cond b (Ok x) (Err fault) ≡ Ok y → IsTrue b
+last_ok true fault x y e = refl
+last_ok false fault x y e = absurd cc
+
 -- a reading that ended well
 abbrev pub done : {A : Type 0} → A → Result A FileFault
 done x = Ok x
