@@ -3,7 +3,7 @@ use Rattle.std.proofs.Common.{◌≡◌, ℕ, ◌+◌, ◌≤◌, ◌&&◌, leb,
 use Rattle.std.specs.Prelude.{IsTrue}
 use Rattle.std.specs.List.{flat_map, list_all}
 use Rattle.std.proofs.lemmas.Bool.{and_parts, and_from, false≢true, leb-true, ltb-true, le-leb}
-use Rattle.std.proofs.lemmas.List.{append-nil, drop_all, drop_at, drop-drop, length-append, length-take, take_at, take-append-drop}
+use Rattle.std.proofs.lemmas.List.{append-nil, drop_at, drop-drop, length-append, length-take, take_at, take-append-drop}
 use Rattle.file_model.specs.declared.fields.PatchField.{PatchField}
 use Rattle.file_model.specs.declared.faults.FileFault.TheVariants.{Trailing}
 use Rattle.file_model.specs.Lists.{BodyLists, IndexLists, FileLists, body_size, bodies_size, bodies_offset}
@@ -12,12 +12,11 @@ use Rattle.file_model.specs.Reading.{◌>>=◌, index_in, body_in, body_of_file,
 use Rattle.file_model.specs.Rules.{is_body, fits_field, has_ends, has_counts, is_field, are_bodies, IsPatchFile}
 use Rattle.file_laws.specs.Numbers.{IsBytes, IsBytes-drop, IsBytes-take}
 use Rattle.file_laws.specs.Units.{both}
-use Rattle.file_laws.specs.Steps.{step_ok, last_ok, ok_is, all_weaken, all_both}
+use Rattle.file_laws.specs.Steps.{step_ok, last_ok, ok_is, front_is_all, all_weaken, all_both}
 use Rattle.file_laws.specs.Bodies.{length-body_text, body_text-in, body_in-text}
 use Rattle.file_laws.specs.Indexes.{has_small_counts, length-index_text, index_text-in, index_in-text}
 
--- each number fits its type, as in every value of the program: no other number is bounded by the rules
--- of a file alone
+-- each number fits its type, as in every value of the program; the rules bound all numbers but these
 pub record FitsTypes (file : FileLists) : Type 0 where
   pub counts : IsTrue (list_all has_small_counts file.index.fields)
 
@@ -112,8 +111,9 @@ end_again : (index : IndexLists) (bytes : List ℕ) → length bytes ≤ file_si
 unfolding end_in
 end_again index bytes h = rw (le-leb (length bytes) (file_size index) h) refl
 
-front_then : (bytes front rest behind : List ℕ) → bytes ≡ front ++ rest → rest ≡ behind → bytes ≡ front ++ behind
-front_then bytes front rest behind p q = p ∙ ap (λ (t : List ℕ). front ++ t) q
+-- a front, and what is found behind it
+joined : (bytes front behind rest : List ℕ) (n : ℕ) → bytes ≡ front ++ drop n bytes → drop n bytes ≡ behind ++ rest → bytes ≡ (front ++ behind) ++ rest
+joined bytes front behind rest n p q = p ∙ ap (λ (t : List ℕ). front ++ t) q ∙ sym (append_assoc front behind rest)
 
 -- found: a file that is read is spelled so, and is one
 pub file_text-in : (file : FileLists) (bytes : List ℕ) → IsBytes bytes → file_in bytes ≡ Ok file → IsPatchFile file bytes × FitsTypes file
@@ -127,10 +127,9 @@ file_text-in file bytes fits e =
     let made : FileLists = record { index = index; bodies = b.0 } in
     let front = index_text-in bytes index fits a.1 in
     let behind = bodies_text-in index.version 0 offset index.fields bytes b.0 fits b.1 in
-    let bodies = flat_map (body_text index.version) b.0 in
-    let nothing : drop (offset + bodies_size index.version index.fields) bytes ≡ [] = drop_all (file_size index) bytes (end_ok index bytes c.0 c.1) in
-    let placed : drop offset bytes ≡ bodies = behind.text ∙ (ap (λ (t : List ℕ). bodies ++ t) nothing ∙ append-nil bodies) in
-    let text : bytes ≡ index_text index ++ bodies = front_then bytes (index_text index) (drop offset bytes) bodies front.text placed in
+    let rest : List ℕ = drop (offset + bodies_size index.version index.fields) bytes in
+    let whole : bytes ≡ file_text made ++ rest = joined bytes (index_text index) (flat_map (body_text index.version) b.0) rest offset front.text behind.text in
+    let text = front_is_all bytes (file_text made) rest whole (omega (arith, end_ok index bytes c.0 c.1, length-file_text made behind.rules)) in
     subst (λ (y : FileLists). IsPatchFile y bytes × FitsTypes y) (ok_is made file c.2) (record { index = front.rules; bodies = behind.rules; text = text }, record { counts = front.small })
 
 -- again: a file that is spelled is read

@@ -179,7 +179,7 @@ header_again h rules =
 
 -- ---- the nodes and the fields
 
--- a header's rules, and an index with its numbers
+-- the header of an index
 abbrev header_for : IndexLists → Header
 header_for index = record { version = index.version; nodes = length index.nodes; patches = length index.fields }
 
