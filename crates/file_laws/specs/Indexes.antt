@@ -124,7 +124,6 @@ header_bytes-in bytes fits long start no_number =
 record IsReadHeader (bytes : List ℕ) (h : Header) : Type 0 where
   text : header_bytes h ≡ take 16 bytes
   rules : IsHeader h
-  long : 16 ≤ length bytes
 
 header_take : (bytes : List ℕ) (h : Header) → IsBytes bytes → header_in bytes ≡ Ok h → IsReadHeader bytes h
 unfolding header_in
@@ -142,7 +141,7 @@ header_take bytes h fits e =
     let l = rule_ok (is_patch_count (number_in 4 (drop 12 bytes))) (PatchCount (number_in 4 (drop 12 bytes))) _ h k.1 in
     let long : 16 ≤ length bytes = ltb-false n 16 k.0 in
     let text = header_bytes-in bytes fits long b.0 (eqb-true (number_in 2 (drop 6 bytes)) 0 g.0) in
-    subst (IsReadHeader bytes) (ok_is (header_of bytes) h l.1) (record { text = text; rules = record { version = d.0; node_count = j.0; patch_count = l.0 }; long = long })
+    subst (IsReadHeader bytes) (ok_is (header_of bytes) h l.1) (record { text = text; rules = record { version = d.0; node_count = j.0; patch_count = l.0 } })
 
 header_same : (h k : Header) → h.version ≡ k.version → h.nodes ≡ k.nodes → h.patches ≡ k.patches → h ≡ k
 header_same h k v n p = rw (v, n, p) refl

@@ -7,7 +7,7 @@ use Rattle.std.proofs.lemmas.Bool.{cases_lt}
 use Rattle.std.proofs.lemmas.Int.{to_z-of_z, of_z-to_z}
 use Rattle.std.proofs.lemmas.List.{take_all, length-take, get_or-drop, get_or-take, get_or_past}
 use Rattle.byteorder.specs.Endian.{little_from}
-use Rattle.byteorder.specs.Numbers.{little_from-cons, length-bytes_low_first, little_number-reads_back, little_from-lt, little_from-append}
+use Rattle.byteorder.specs.Numbers.{little_from-cons, length-bytes_low_first, little_number-reads_back, little_from-lt}
 use Rattle.file_model.specs.Numbers.{number_text, number_in, signed_text, signed_in}
 
 -- each is a byte
@@ -24,7 +24,7 @@ IsBytes-take n bytes h i =
       | inr le ↦ rw (get_or_past (take n bytes) i 0 (omega (arith, length-take n bytes))) (omega arith)
     ]
 
-pub IsBytes-rest : (b : ℕ) (bytes : List ℕ) → IsBytes (b ∷ bytes) → IsBytes bytes
+IsBytes-rest : (b : ℕ) (bytes : List ℕ) → IsBytes (b ∷ bytes) → IsBytes bytes
 IsBytes-rest b bytes h i = h (suc i)
 
 -- ---- numbers without a sign
@@ -40,11 +40,6 @@ number_in-text w n rest h = little_number-reads_back w n rest h
 pub number_in-fits : (w : ℕ) (bytes : List ℕ) → IsBytes bytes → number_in w bytes < 256 ^ w
 unfolding number_in
 number_in-fits w bytes h = little_from-lt 0 w bytes h
-
--- a number of so many bytes reads no byte after them
-pub number_in-append : (w : ℕ) (bytes rest : List ℕ) → w ≤ length bytes → number_in w (bytes ++ rest) ≡ number_in w bytes
-unfolding number_in
-number_in-append w bytes rest h = little_from-append w bytes rest h
 
 byte_at-suc : (i n : ℕ) → byte_at (suc i) n ≡ byte_at i (n / 256)
 byte_at-suc zero n = refl
