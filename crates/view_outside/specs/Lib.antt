@@ -2,3 +2,4 @@ pub mod Faults
 pub mod Taken
 pub mod Files
 pub mod Streams
+pub mod Memory

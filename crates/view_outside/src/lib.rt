@@ -5,6 +5,7 @@
 #![tactic(auto)]
 
 mod failed;
+mod planned;
 mod sinks;
 mod sources;
 mod stores;
@@ -12,4 +13,4 @@ mod stores;
 pub use failed::Failed;
 pub use sinks::Sink;
 pub use sources::Source;
-pub use stores::Store;
+pub use stores::{MemoryStore, NamedFile, Store};

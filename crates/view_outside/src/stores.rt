@@ -7,6 +7,10 @@ ghost use Rattle.view_outside.specs.Taken.{taken_after};
 
 use crate::failed::Failed;
 
+mod memory;
+
+pub use memory::{MemoryStore, NamedFile};
+
 /// Files with a number, a name and bytes, none of which changes.
 pub trait Store {
     /// The files by their numbers, where the store tells them.

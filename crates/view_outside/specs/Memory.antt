@@ -1,0 +1,9 @@
+-- What the outside in memory holds.
+use Rattle.std.specs.Prelude.{ℕ, List}
+use Rattle.view_outside.specs.Files.{Named}
+
+-- a store in memory: its files, its faults so far, and how many bytes it has handed over
+pub record MemoryFiles : Type 0 where
+  pub files : List Named
+  pub faults : ℕ
+  pub taken : ℕ

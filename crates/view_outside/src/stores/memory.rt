@@ -1,0 +1,143 @@
+//! Files in memory.
+
+ghost use Rattle.std.specs.Prelude.{◌≡◌, ◌+◌, ◌-◌, ◌^◌, ◌≤◌, min, Some, length, vec_len, string_bytes};
+ghost use Rattle.view_outside.specs.Files.{number_named, ReadsFrom};
+
+use crate::failed::Failed;
+use crate::planned::{PlannedCalls, PlannedReads};
+use crate::stores::Store;
+use std::marker::Model;
+
+/// A file: its name and its bytes.
+#[derive(Drop)]
+pub struct NamedFile {
+    name: String,
+    bytes: Vec<u8>,
+}
+
+impl Model for NamedFile {
+    ghost use Rattle.std.specs.Prelude.{string_bytes};
+    ghost use Rattle.view_outside.specs.Files.{Named};
+
+    ghost Value = { Named };
+
+    ghost view = { λ file. (string_bytes file.name, file.bytes.items) };
+}
+
+impl NamedFile {
+    pub fn new(name: String, bytes: Vec<u8>) -> NamedFile
+        ensures { result ≡ (string_bytes name, bytes.items) }
+    {
+        NamedFile { name, bytes }
+    }
+}
+
+/// Files in memory, numbered from 0 in their order, with calls that are to fail.
+#[derive(Drop)]
+pub struct MemoryStore {
+    files: Vec<NamedFile>,
+    fail_reads: PlannedReads,
+    fail_calls: PlannedCalls,
+    faults: u64,
+    taken: u128,
+}
+
+impl Model for MemoryStore {
+    ghost use Rattle.std.specs.Prelude.{◌^◌, ◌≤◌, length};
+    ghost use Rattle.view_outside.specs.Memory.{MemoryFiles};
+
+    ghost Value = { MemoryFiles };
+
+    ghost view = { λ store. record { files = store.files.items; faults = store.faults; taken = store.taken } };
+
+    // So each file has a number.
+    ghost invariant = { λ store. length store.files.items ≤ 2 ^ 32 };
+}
+
+impl MemoryStore {
+    /// A store of these files. An entry (o, n) of `fail_reads` makes the n-th read at offset o fail,
+    /// and an entry c of `fail_calls` the c-th call. Both count from 1.
+    pub fn new(
+        files: Vec<NamedFile>,
+        fail_reads: Vec<(u64, u32)>,
+        fail_calls: Vec<u64>,
+    ) -> MemoryStore
+        requires { vec_len files ≤ 2 ^ 32 }
+        ensures files { result.files ≡ files.items }
+        ensures faults { result.faults ≡ 0 }
+        ensures taken { result.taken ≡ 0 }
+    {
+        MemoryStore {
+            files,
+            fail_reads: PlannedReads::new(fail_reads),
+            fail_calls: PlannedCalls::new(fail_calls),
+            faults: 0,
+            taken: 0,
+        }
+    }
+
+    /// How many bytes the store has handed over. It stays at its last value where a sum would pass that.
+    pub fn taken(&self) -> u128
+        ensures { result ≡ self.now.taken }
+    {
+        self.taken
+    }
+
+    fn fail(&mut self)
+        ensures { self.new ≡ record self.old { faults = min (self.old.faults + 1) (2 ^ 64 - 1) } }
+    {
+        self.faults = self.faults.saturating_add(1);
+    }
+}
+
+impl Store for MemoryStore {
+    ghost files = { λ store. Some store.files };
+
+    ghost faults = { λ store. store.faults };
+
+    ghost taken = { λ store. store.taken };
+
+    fn find(&mut self, name: &str) -> Result<u32, Failed> {
+        if self.fail_calls.count() {
+            self.fail();
+            return Err(Failed);
+        }
+        match place_named(&self.files, name) {
+            Some(place) => Ok(place as u32),
+            None => Err(Failed),
+        }
+    }
+
+    fn read_at(&mut self, file: u32, offset: u64, buffer: &mut [u8]) -> Result<usize, Failed> {
+        let call_fails = self.fail_calls.count();
+        let read_fails = self.fail_reads.count(offset);
+        if call_fails || read_fails {
+            self.fail();
+            return Err(Failed);
+        }
+        let Some(named) = self.files.get(file as usize) else {
+            return Err(Failed);
+        };
+        let n = copy_from(&named.bytes, offset, buffer);
+        self.taken = self.taken.saturating_add(n as u128);
+        Ok(n)
+    }
+}
+
+/// The place of the first file of this name.
+fn place_named(files: &[NamedFile], name: &str) -> Option<usize>
+    ensures { result ≡ number_named files.now name.now }
+{
+    files.iter().position(|file| file.name.as_str() == name)
+}
+
+/// Copies what stands at this offset into the buffer, and answers how many bytes.
+fn copy_from(bytes: &[u8], offset: u64, buffer: &mut [u8]) -> usize
+    ensures bound { result ≤ length buffer.new }
+    ensures bytes { ReadsFrom bytes.now offset buffer.new result }
+{
+    let rest = &bytes[(offset as usize).min(bytes.len())..];
+    let n = rest.len().min(buffer.len());
+    buffer[..n].copy_from_slice(&rest[..n]);
+    n
+}
