@@ -3,3 +3,4 @@ pub mod Taken
 pub mod Files
 pub mod Streams
 pub mod Memory
+pub mod Room

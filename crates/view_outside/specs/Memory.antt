@@ -7,3 +7,13 @@ pub record MemoryFiles : Type 0 where
   pub files : List Named
   pub faults : ℕ
   pub taken : ℕ
+
+-- a source in memory: the bytes still to be read, and its faults so far
+pub record MemoryRest : Type 0 where
+  pub rest : List ℕ
+  pub faults : ℕ
+
+-- a sink in memory: the bytes written, and its faults so far
+pub record MemoryText : Type 0 where
+  pub written : List ℕ
+  pub faults : ℕ

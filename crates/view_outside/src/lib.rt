@@ -4,6 +4,7 @@
 //! Each counts its faults, so that a failed call can be traced to the outside.
 #![tactic(auto)]
 
+mod copies;
 mod failed;
 mod planned;
 mod sinks;
@@ -11,6 +12,6 @@ mod sources;
 mod stores;
 
 pub use failed::Failed;
-pub use sinks::Sink;
-pub use sources::Source;
+pub use sinks::{MemorySink, Sink};
+pub use sources::{MemorySource, Source};
 pub use stores::{MemoryStore, NamedFile, Store};

@@ -6,6 +6,10 @@ ghost use Rattle.view_outside.specs.Streams.{appended};
 
 use crate::failed::Failed;
 
+mod memory;
+
+pub use memory::MemorySink;
+
 /// Takes bytes in their order.
 pub trait Sink {
     /// The bytes written so far, where the sink tells them.

@@ -6,6 +6,10 @@ ghost use Rattle.view_outside.specs.Streams.{ReadsRest};
 
 use crate::failed::Failed;
 
+mod memory;
+
+pub use memory::MemorySource;
+
 /// Bytes that are read once, in their order.
 pub trait Source {
     /// The bytes still to be read, where the source tells them.

@@ -1,8 +1,9 @@
 //! Files in memory.
 
-ghost use Rattle.std.specs.Prelude.{◌≡◌, ◌+◌, ◌-◌, ◌^◌, ◌≤◌, min, Some, length, vec_len, string_bytes};
-ghost use Rattle.view_outside.specs.Files.{number_named, ReadsFrom};
+ghost use Rattle.std.specs.Prelude.{◌≡◌, ◌+◌, ◌-◌, ◌^◌, ◌≤◌, min, Some, vec_len, string_bytes};
+ghost use Rattle.view_outside.specs.Files.{number_named};
 
+use crate::copies::copy_from;
 use crate::failed::Failed;
 use crate::planned::{PlannedCalls, PlannedReads};
 use crate::stores::Store;
@@ -118,7 +119,7 @@ impl Store for MemoryStore {
         let Some(named) = self.files.get(file as usize) else {
             return Err(Failed);
         };
-        let n = copy_from(&named.bytes, offset, buffer);
+        let n = copy_from(&named.bytes, offset as usize, buffer);
         self.taken = self.taken.saturating_add(n as u128);
         Ok(n)
     }
@@ -129,15 +130,4 @@ fn place_named(files: &[NamedFile], name: &str) -> Option<usize>
     ensures { result ≡ number_named files.now name.now }
 {
     files.iter().position(|file| file.name.as_str() == name)
-}
-
-/// Copies what stands at this offset into the buffer, and answers how many bytes.
-fn copy_from(bytes: &[u8], offset: u64, buffer: &mut [u8]) -> usize
-    ensures bound { result ≤ length buffer.new }
-    ensures bytes { ReadsFrom bytes.now offset buffer.new result }
-{
-    let rest = &bytes[(offset as usize).min(bytes.len())..];
-    let n = rest.len().min(buffer.len());
-    buffer[..n].copy_from_slice(&rest[..n]);
-    n
 }
