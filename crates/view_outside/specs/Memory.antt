@@ -17,3 +17,8 @@ pub record MemoryRest : Type 0 where
 pub record MemoryText : Type 0 where
   pub written : List ℕ
   pub faults : ℕ
+
+-- a store over the system's files: its faults so far, and how many bytes it has handed over
+pub record FolderCounts : Type 0 where
+  pub faults : ℕ
+  pub taken : ℕ

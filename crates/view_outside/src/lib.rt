@@ -12,6 +12,6 @@ mod sources;
 mod stores;
 
 pub use failed::Failed;
-pub use sinks::{MemorySink, Sink};
-pub use sources::{MemorySource, Source};
-pub use stores::{MemoryStore, NamedFile, Store};
+pub use sinks::{MemorySink, Sink, StdSink};
+pub use sources::{MemorySource, Source, StdSource};
+pub use stores::{FolderStore, MemoryStore, NamedFile, Store};

@@ -7,8 +7,10 @@ ghost use Rattle.view_outside.specs.Streams.{appended};
 use crate::failed::Failed;
 
 mod memory;
+mod writer;
 
 pub use memory::MemorySink;
+pub use writer::StdSink;
 
 /// Takes bytes in their order.
 pub trait Sink {

@@ -7,8 +7,10 @@ ghost use Rattle.view_outside.specs.Streams.{ReadsRest};
 use crate::failed::Failed;
 
 mod memory;
+mod reader;
 
 pub use memory::MemorySource;
+pub use reader::StdSource;
 
 /// Bytes that are read once, in their order.
 pub trait Source {

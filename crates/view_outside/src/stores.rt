@@ -7,8 +7,10 @@ ghost use Rattle.view_outside.specs.Taken.{taken_after};
 
 use crate::failed::Failed;
 
+mod folder;
 mod memory;
 
+pub use folder::FolderStore;
 pub use memory::{MemoryStore, NamedFile};
 
 /// Files with a number, a name and bytes, none of which changes.
