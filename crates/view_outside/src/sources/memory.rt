@@ -1,6 +1,10 @@
 //! A source in memory.
 
-ghost use Rattle.std.specs.Prelude.{◌≡◌, ◌≤◌, Some};
+ghost use Rattle.std.specs.Prelude.{◌≡◌, ◌<◌, ◌≤◌, length, Some, IfOk, OnErr, ⊤};
+ghost use Rattle.std.specs.Result.{result_ok, result_unwrap_or};
+ghost use Rattle.view_outside.specs.Faults.{HasCause};
+ghost use Rattle.view_outside.specs.SourceState.{read_answer, after_read};
+ghost use Rattle.view_outside.specs.Streams.{ReadsRest};
 
 use crate::copies::copy_from;
 use crate::failed::Failed;
@@ -20,11 +24,16 @@ pub struct MemorySource {
 
 impl Model for MemorySource {
     ghost use Rattle.std.specs.Prelude.{◌≤◌, drop, length};
-    ghost use Rattle.view_outside.specs.Memory.{MemoryRest};
+    ghost use Rattle.view_outside.specs.SourceState.{SourceState};
 
-    ghost Value = { MemoryRest };
+    ghost Value = { SourceState };
 
-    ghost view = { λ source. record { rest = drop source.next source.bytes.items; faults = source.faults } };
+    ghost view = { λ source. record {
+      rest = drop source.next source.bytes.items;
+      piece = source.piece;
+      fail_calls = source.fail_calls;
+      faults = source.faults;
+    } };
 
     ghost invariant = { λ source. (source.next ≤ length source.bytes.items) × (1 ≤ source.piece) };
 }
@@ -35,6 +44,8 @@ impl MemorySource {
     pub fn new(bytes: Vec<u8>, piece: usize, fail_calls: Vec<u64>) -> MemorySource
         requires { 1 ≤ piece }
         ensures rest { result.rest ≡ bytes.items }
+        ensures piece { result.piece ≡ piece }
+        ensures fail_calls { result.fail_calls ≡ fail_calls.items }
         ensures faults { result.faults ≡ 0 }
     {
         MemorySource {
@@ -52,7 +63,17 @@ impl Source for MemorySource {
 
     ghost faults = { λ source. source.faults };
 
-    fn read(&mut self, buffer: &mut [u8]) -> Result<usize, Failed> {
+    // The trait's clauses, and then what this source adds to them.
+    fn read(&mut self, buffer: &mut [u8]) -> Result<usize, Failed>
+        requires { 0 < length buffer.old }
+        ensures bound { IfOk result (λ n. n ≤ length buffer.new) }
+        ensures bytes { IfOk result (λ n. ReadsRest (Some self.old.rest) buffer.new n (Some self.new.rest)) }
+        ensures unread { OnErr result (self.new.rest ≡ self.old.rest) }
+        ensures cause { HasCause self.old.faults self.new.faults ⊤ result }
+
+        ensures answer { result_ok result ≡ read_answer self.old (length buffer.old) }
+        ensures after { self.new ≡ after_read self.old (result_unwrap_or result 0) }
+    {
         if self.fail_calls.count() {
             self.faults = self.faults.saturating_add(1);
             return Err(Failed);

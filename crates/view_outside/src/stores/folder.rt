@@ -33,7 +33,7 @@ pub struct FolderStore<R: Files> {
 
 impl<R: Files> Model for FolderStore<R> {
     ghost use Rattle.std.specs.Prelude.{◌≤◌, vec_len};
-    ghost use Rattle.view_outside.specs.Memory.{FolderCounts};
+    ghost use Rattle.view_outside.specs.FolderCounts.{FolderCounts};
 
     ghost Value = { FolderCounts };
 

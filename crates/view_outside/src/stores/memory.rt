@@ -1,7 +1,11 @@
 //! Files in memory.
 
-ghost use Rattle.std.specs.Prelude.{◌≡◌, ◌+◌, ◌-◌, ◌^◌, ◌≤◌, min, Some, vec_len, string_bytes};
-ghost use Rattle.view_outside.specs.Files.{number_named};
+ghost use Rattle.std.specs.Prelude.{◌≡◌, ◌+◌, ◌-◌, ◌^◌, ◌≤◌, min, length, Some, IfOk, MatchResult, vec_len, string_bytes};
+ghost use Rattle.std.specs.Result.{result_ok, result_unwrap_or};
+ghost use Rattle.view_outside.specs.Faults.{HasCause};
+ghost use Rattle.view_outside.specs.Files.{number_named, HasFile, HasName, Finds, ReadsFile};
+ghost use Rattle.view_outside.specs.StoreState.{find_answer, after_find, read_answer, after_read};
+ghost use Rattle.view_outside.specs.Taken.{taken_after};
 
 use crate::copies::copy_from;
 use crate::failed::Failed;
@@ -45,11 +49,17 @@ pub struct MemoryStore {
 
 impl Model for MemoryStore {
     ghost use Rattle.std.specs.Prelude.{◌^◌, ◌≤◌, length};
-    ghost use Rattle.view_outside.specs.Memory.{MemoryFiles};
+    ghost use Rattle.view_outside.specs.StoreState.{StoreState};
 
-    ghost Value = { MemoryFiles };
+    ghost Value = { StoreState };
 
-    ghost view = { λ store. record { files = store.files.items; faults = store.faults; taken = store.taken } };
+    ghost view = { λ store. record {
+      files = store.files.items;
+      fail_reads = store.fail_reads;
+      fail_calls = store.fail_calls;
+      faults = store.faults;
+      taken = store.taken;
+    } };
 
     // So each file has a number.
     ghost invariant = { λ store. length store.files.items ≤ 2 ^ 32 };
@@ -65,6 +75,8 @@ impl MemoryStore {
     ) -> MemoryStore
         requires { vec_len files ≤ 2 ^ 32 }
         ensures files { result.files ≡ files.items }
+        ensures fail_reads { result.fail_reads ≡ fail_reads.items }
+        ensures fail_calls { result.fail_calls ≡ fail_calls.items }
         ensures faults { result.faults ≡ 0 }
         ensures taken { result.taken ≡ 0 }
     {
@@ -98,7 +110,17 @@ impl Store for MemoryStore {
 
     ghost taken = { λ store. store.taken };
 
-    fn find(&mut self, name: &str) -> Result<u32, Failed> {
+    // The trait's clauses, and then what this store adds to them.
+    fn find(&mut self, name: &str) -> Result<u32, Failed>
+        ensures there { IfOk result (λ file. HasFile (Some self.old.files) file) }
+        ensures found { IfOk result (λ file. Finds (Some self.old.files) name.now file) }
+        ensures cause { HasCause self.old.faults self.new.faults (HasName (Some self.old.files) name.now) result }
+        ensures kept { self.new.files ≡ self.old.files }
+        ensures taken { self.new.taken ≡ self.old.taken }
+
+        ensures answer { result_ok result ≡ find_answer self.old name.now }
+        ensures after { self.new ≡ after_find self.old }
+    {
         if self.fail_calls.count() {
             self.fail();
             return Err(Failed);
@@ -109,7 +131,19 @@ impl Store for MemoryStore {
         }
     }
 
-    fn read_at(&mut self, file: u32, offset: u64, buffer: &mut [u8]) -> Result<usize, Failed> {
+    // The trait's clauses, and then what this store adds to them.
+    fn read_at(&mut self, file: u32, offset: u64, buffer: &mut [u8]) -> Result<usize, Failed>
+        ensures bound { IfOk result (λ n. n ≤ length buffer.new) }
+        ensures bytes { IfOk result (λ n. ReadsFile (Some self.old.files) file offset buffer.new n) }
+        ensures cause { HasCause self.old.faults self.new.faults (HasFile (Some self.old.files) file) result }
+        ensures kept { self.new.files ≡ self.old.files }
+        ensures taken { MatchResult result
+            (λ n. self.new.taken ≡ taken_after self.old.taken n)
+            (λ _. self.new.taken ≡ self.old.taken) }
+
+        ensures answer { result_ok result ≡ read_answer self.old file offset (length buffer.old) }
+        ensures after { self.new ≡ after_read self.old offset (result_unwrap_or result 0) }
+    {
         let call_fails = self.fail_calls.count();
         let read_fails = self.fail_reads.count(offset);
         if call_fails || read_fails {
