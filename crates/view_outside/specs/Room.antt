@@ -1,5 +1,5 @@
 -- The room of a sink in memory.
-use Rattle.std.specs.Prelude.{ℕ, ◌≤◌, vec_len, vec_capacity}
+use Rattle.std.specs.Prelude.{◌≤◌, vec_len, vec_capacity}
 use Rattle.view_outside.specs.declared.sinks.memory.MemorySink.TheInside.{Inside}
 
 -- what was written fits the room, for which there is memory, and a write takes at least a byte

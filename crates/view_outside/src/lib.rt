@@ -15,3 +15,6 @@ pub use failed::Failed;
 pub use sinks::{MemorySink, Sink, StdSink};
 pub use sources::{MemorySource, Source, StdSource};
 pub use stores::{FolderStore, MemoryStore, NamedFile, Store};
+
+#[cfg(test)]
+mod tests;
