@@ -1,5 +1,5 @@
 -- Calls that are planned to fail, each by how far away it is: 1 is the next call, 0 a call that is over.
-use Rattle.std.specs.Prelude.{ℕ, ◌+◌, ◌-◌, ◌^◌, ◌==◌, ◌&&◌, Bool, if◌then◌else◌, List, map, min}
+use Rattle.std.specs.Prelude.{ℕ, ◌-◌, ◌==◌, ◌&&◌, Bool, if◌then◌else◌, List, map}
 use Rattle.std.specs.List.{list_any}
 
 -- the next call is to fail
@@ -21,7 +21,3 @@ read_after offset read = (read.0, (if read.0 == offset then read.1 - 1 else read
 -- the planned reads after one read at this offset
 abbrev pub reads_after : ℕ → List (ℕ × ℕ) → List (ℕ × ℕ)
 reads_after offset away = map (read_after offset) away
-
--- the count of faults after a call, which stays at the last value of a `u64`
-abbrev pub faults_after : Bool → ℕ → ℕ
-faults_after fails faults = if fails then min (faults + 1) (2 ^ 64 - 1) else faults

@@ -1,6 +1,7 @@
 -- A sink in memory and its calls.
 use Rattle.std.specs.Prelude.{ℕ, ◌-◌, ◌||◌, Bool, if◌then◌else◌, nat_le, List, ◌++◌, length, min, Option, None, Some}
-use Rattle.view_outside.specs.Planned.{fails_next, calls_after, faults_after}
+use Rattle.view_outside.specs.Faults.{faults_after}
+use Rattle.view_outside.specs.Planned.{fails_next, calls_after}
 
 -- the bytes written, how many there is room for, how many a write takes at most, the calls that are to fail, and its
 -- faults so far

@@ -1,6 +1,7 @@
 -- A source in memory and its calls.
 use Rattle.std.specs.Prelude.{ℕ, if◌then◌else◌, List, length, drop, min, Option, None, Some}
-use Rattle.view_outside.specs.Planned.{fails_next, calls_after, faults_after}
+use Rattle.view_outside.specs.Faults.{faults_after}
+use Rattle.view_outside.specs.Planned.{fails_next, calls_after}
 
 -- the bytes still to be read, how many a read gives at most, the calls that are to fail, and its faults so far
 pub record SourceState : Type 0 where

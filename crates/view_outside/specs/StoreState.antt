@@ -1,7 +1,8 @@
 -- A store in memory and its calls.
 use Rattle.std.specs.Prelude.{ℕ, ◌||◌, Bool, if◌then◌else◌, List, length, drop, min, Option, None, option_map}
 use Rattle.view_outside.specs.Files.{Named, number_named, bytes_at}
-use Rattle.view_outside.specs.Planned.{fails_next, calls_after, fails_next_at, reads_after, faults_after}
+use Rattle.view_outside.specs.Faults.{faults_after}
+use Rattle.view_outside.specs.Planned.{fails_next, calls_after, fails_next_at, reads_after}
 use Rattle.view_outside.specs.Taken.{taken_after}
 
 -- its files, the reads and calls that are to fail, its faults so far, and how many bytes it has handed over

@@ -6,6 +6,7 @@
 
 mod copies;
 mod failed;
+mod faults;
 mod planned;
 mod sinks;
 mod sources;

@@ -7,6 +7,7 @@ ghost use Rattle.view_outside.specs.SinkState.{write_answer, after_write};
 ghost use Rattle.view_outside.specs.Streams.{appended};
 
 use crate::failed::Failed;
+use crate::faults::FaultCount;
 use crate::planned::PlannedCalls;
 use crate::sinks::Sink;
 use std::alloc::{AllocError, Global};
@@ -19,7 +20,7 @@ pub struct MemorySink {
     room: usize,
     piece: usize,
     fail_calls: PlannedCalls,
-    faults: u64,
+    faults: FaultCount,
 }
 
 impl Model for MemorySink {
@@ -62,7 +63,7 @@ impl MemorySink {
             room,
             piece,
             fail_calls: PlannedCalls::new(fail_calls),
-            faults: 0,
+            faults: FaultCount::new(),
         })
     }
 
@@ -94,8 +95,7 @@ impl Sink for MemorySink {
         let call_fails = self.fail_calls.count();
         let left = self.room - self.bytes.len();
         if call_fails || left == 0 {
-            self.faults = self.faults.saturating_add(1);
-            return Err(Failed);
+            return Err(self.faults.raise());
         }
         let n = piece.len().min(self.piece).min(left);
         if self.bytes.extend_from_slice(&piece[..n]).is_err() {

@@ -8,6 +8,7 @@ ghost use Rattle.view_outside.specs.Streams.{ReadsRest};
 
 use crate::copies::copy_from;
 use crate::failed::Failed;
+use crate::faults::FaultCount;
 use crate::planned::PlannedCalls;
 use crate::sources::Source;
 use std::marker::Model;
@@ -19,7 +20,7 @@ pub struct MemorySource {
     next: usize,
     piece: usize,
     fail_calls: PlannedCalls,
-    faults: u64,
+    faults: FaultCount,
 }
 
 impl Model for MemorySource {
@@ -53,7 +54,7 @@ impl MemorySource {
             next: 0,
             piece,
             fail_calls: PlannedCalls::new(fail_calls),
-            faults: 0,
+            faults: FaultCount::new(),
         }
     }
 }
@@ -75,8 +76,7 @@ impl Source for MemorySource {
         ensures after { self.new ≡ after_read self.old (result_unwrap_or result 0) }
     {
         if self.fail_calls.count() {
-            self.faults = self.faults.saturating_add(1);
-            return Err(Failed);
+            return Err(self.faults.raise());
         }
         let room = buffer.len().min(self.piece);
         let n = copy_from(&self.bytes, self.next, &mut buffer[..room]);

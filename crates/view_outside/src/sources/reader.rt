@@ -3,6 +3,7 @@
 ghost use Rattle.std.specs.Prelude.{◌≡◌, None};
 
 use crate::failed::Failed;
+use crate::faults::FaultCount;
 use crate::sources::Source;
 use std::io::Read;
 use std::marker::Model;
@@ -11,7 +12,7 @@ use std::marker::Model;
 #[derive(Drop)]
 pub struct StdSource<R> {
     reader: R,
-    faults: u64,
+    faults: FaultCount,
 }
 
 impl<R> Model for StdSource<R> {
@@ -26,7 +27,10 @@ impl<R: Read> StdSource<R> {
     pub fn new(reader: R) -> StdSource<R>
         ensures { result ≡ 0 }
     {
-        StdSource { reader, faults: 0 }
+        StdSource {
+            reader,
+            faults: FaultCount::new(),
+        }
     }
 }
 
@@ -38,10 +42,7 @@ impl<R: Read> Source for StdSource<R> {
     fn read(&mut self, buffer: &mut [u8]) -> Result<usize, Failed> {
         match self.reader.read(buffer) {
             Ok(n) => Ok(n),
-            Err(_) => {
-                self.faults = self.faults.saturating_add(1);
-                Err(Failed)
-            }
+            Err(_) => Err(self.faults.raise()),
         }
     }
 }

@@ -3,6 +3,7 @@
 ghost use Rattle.std.specs.Prelude.{◌≡◌, ◌<◌, ◌≤◌, length, None, IfOk, IfSome};
 
 use crate::failed::Failed;
+use crate::faults::FaultCount;
 use crate::stores::Store;
 use std::alloc::{AllocError, Global};
 use std::fs;
@@ -27,19 +28,21 @@ pub struct FolderStore<R: Files> {
     runtime: R,
     alloc: Global,
     opened: Vec<OpenedFile<R::File>>,
-    faults: u64,
+    faults: FaultCount,
     taken: u128,
 }
 
 impl<R: Files> Model for FolderStore<R> {
     ghost use Rattle.std.specs.Prelude.{◌≤◌, vec_len};
+    ghost use Rattle.std.specs.Prelude.{vec_capacity};
     ghost use Rattle.view_outside.specs.FolderCounts.{FolderCounts};
+    ghost use Rattle.view_outside.specs.declared.stores.folder.TheConstants.{ROOM};
 
     ghost Value = { FolderCounts };
 
     ghost view = { λ store. record { faults = store.faults; taken = store.taken } };
 
-    ghost invariant = { λ store. vec_len store.opened ≤ 2 };
+    ghost invariant = { λ store. (vec_len store.opened ≤ ROOM) × (ROOM ≤ vec_capacity store.opened) };
 }
 
 impl<R: Files + Drop> FolderStore<R> {
@@ -53,9 +56,27 @@ impl<R: Files + Drop> FolderStore<R> {
             runtime,
             alloc,
             opened,
-            faults: 0,
+            faults: FaultCount::new(),
             taken: 0,
         })
+    }
+
+    /// Opens a file and answers its place. None where all places are taken, the system refuses it
+    /// or there is no memory for its name.
+    fn open_next(&mut self, name: &str) -> Option<usize>
+        ensures place { IfSome result (λ place. place < ROOM) }
+        ensures kept { self.new ≡ self.old }
+    {
+        let place = self.opened.len();
+        if place >= ROOM {
+            return None;
+        }
+        let file = fs::open(&self.runtime, name).ok()?;
+        let name = String::from_str(self.alloc, name).ok()?;
+        if self.opened.push(OpenedFile { name, file }).is_err() {
+            unreachable!()
+        }
+        Some(place)
     }
 }
 
@@ -70,16 +91,10 @@ impl<R: Files + Drop> Store for FolderStore<R> {
         if let Some(place) = place_opened(&self.opened, name) {
             return Ok(place as u32);
         }
-        if self.opened.len() < ROOM {
-            if let Some(opened) = open(&self.runtime, self.alloc, name) {
-                let place = self.opened.len();
-                if self.opened.push(opened).is_ok() {
-                    return Ok(place as u32);
-                }
-            }
+        if let Some(place) = self.open_next(name) {
+            return Ok(place as u32);
         }
-        self.faults = self.faults.saturating_add(1);
-        Err(Failed)
+        Err(self.faults.raise())
     }
 
     fn read_at(&mut self, file: u32, offset: u64, buffer: &mut [u8]) -> Result<usize, Failed> {
@@ -89,8 +104,7 @@ impl<R: Files + Drop> Store for FolderStore<R> {
                 return Ok(n);
             }
         }
-        self.faults = self.faults.saturating_add(1);
-        Err(Failed)
+        Err(self.faults.raise())
     }
 }
 
@@ -99,13 +113,6 @@ fn place_opened<F>(opened: &[OpenedFile<F>], name: &str) -> Option<usize>
     ensures { IfSome result (λ place. place < length opened.now) }
 {
     opened.iter().position(|file| file.name.as_str() == name)
-}
-
-/// Opens a file, unless the system refuses it or there is no memory for its name.
-fn open<R: Files>(runtime: &R, alloc: Global, name: &str) -> Option<OpenedFile<R::File>> {
-    let file = fs::open(runtime, name).ok()?;
-    let name = String::from_str(alloc, name).ok()?;
-    Some(OpenedFile { name, file })
 }
 
 /// Reads what stands at this offset of a file.

@@ -1,6 +1,6 @@
 //! Files in memory.
 
-ghost use Rattle.std.specs.Prelude.{◌≡◌, ◌+◌, ◌-◌, ◌^◌, ◌≤◌, min, length, Some, IfOk, MatchResult, vec_len, string_bytes};
+ghost use Rattle.std.specs.Prelude.{◌≡◌, ◌^◌, ◌≤◌, length, Some, IfOk, MatchResult, vec_len, string_bytes};
 ghost use Rattle.std.specs.Result.{result_ok, result_unwrap_or};
 ghost use Rattle.view_outside.specs.Faults.{HasCause};
 ghost use Rattle.view_outside.specs.Files.{number_named, HasFile, HasName, Finds, ReadsFile};
@@ -9,6 +9,7 @@ ghost use Rattle.view_outside.specs.Taken.{taken_after};
 
 use crate::copies::copy_from;
 use crate::failed::Failed;
+use crate::faults::FaultCount;
 use crate::planned::{PlannedCalls, PlannedReads};
 use crate::stores::Store;
 use std::marker::Model;
@@ -43,7 +44,7 @@ pub struct MemoryStore {
     files: Vec<NamedFile>,
     fail_reads: PlannedReads,
     fail_calls: PlannedCalls,
-    faults: u64,
+    faults: FaultCount,
     taken: u128,
 }
 
@@ -84,7 +85,7 @@ impl MemoryStore {
             files,
             fail_reads: PlannedReads::new(fail_reads),
             fail_calls: PlannedCalls::new(fail_calls),
-            faults: 0,
+            faults: FaultCount::new(),
             taken: 0,
         }
     }
@@ -94,12 +95,6 @@ impl MemoryStore {
         ensures { result ≡ self.now.taken }
     {
         self.taken
-    }
-
-    fn fail(&mut self)
-        ensures { self.new ≡ record self.old { faults = min (self.old.faults + 1) (2 ^ 64 - 1) } }
-    {
-        self.faults = self.faults.saturating_add(1);
     }
 }
 
@@ -122,8 +117,7 @@ impl Store for MemoryStore {
         ensures after { self.new ≡ after_find self.old }
     {
         if self.fail_calls.count() {
-            self.fail();
-            return Err(Failed);
+            return Err(self.faults.raise());
         }
         match place_named(&self.files, name) {
             Some(place) => Ok(place as u32),
@@ -147,8 +141,7 @@ impl Store for MemoryStore {
         let call_fails = self.fail_calls.count();
         let read_fails = self.fail_reads.count(offset);
         if call_fails || read_fails {
-            self.fail();
-            return Err(Failed);
+            return Err(self.faults.raise());
         }
         let Some(named) = self.files.get(file as usize) else {
             return Err(Failed);
