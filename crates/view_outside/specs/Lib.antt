@@ -1,0 +1,10 @@
+pub mod Faults
+pub mod Taken
+pub mod Files
+pub mod Streams
+pub mod Planned
+pub mod StoreState
+pub mod SourceState
+pub mod SinkState
+pub mod Room
+pub mod FolderCounts

@@ -1,0 +1,21 @@
+//! The outside of the viewer: files that are read, a source of text and a sink of text.
+//!
+//! Each is a trait. Those in memory tell what they hold; those over the system's files and streams tell nothing of it.
+//! Each counts its faults, so that a failed call can be traced to the outside.
+#![tactic(auto)]
+
+mod copies;
+mod failed;
+mod faults;
+mod planned;
+mod sinks;
+mod sources;
+mod stores;
+
+pub use failed::Failed;
+pub use sinks::{MemorySink, Sink, StdSink};
+pub use sources::{MemorySource, Source, StdSource};
+pub use stores::{FolderStore, MemoryStore, NamedFile, Store};
+
+#[cfg(test)]
+mod tests;

@@ -1,0 +1,144 @@
+//! Each call once, with ample memory, and the calls that are planned to fail.
+
+ghost use Rattle.std.specs.Prelude.{◌<◌, length};
+
+use super::*;
+use std::fs;
+use std::test::Fail;
+
+fn find<S: Store>(store: &mut S, name: &str) -> Result<u32, Failed> {
+    store.find(name)
+}
+
+fn read_at<S: Store>(
+    store: &mut S,
+    file: u32,
+    offset: u64,
+    buffer: &mut [u8],
+) -> Result<usize, Failed> {
+    store.read_at(file, offset, buffer)
+}
+
+fn read<S: Source>(source: &mut S, buffer: &mut [u8]) -> Result<usize, Failed>
+    requires { 0 < length buffer.old }
+{
+    source.read(buffer)
+}
+
+fn write<S: Sink>(sink: &mut S, piece: &[u8]) -> Result<usize, Failed>
+    requires { 0 < length piece.now }
+{
+    sink.write(piece)
+}
+
+#[test]
+fn a_store_in_memory(rt: HostRuntime) -> Result<(), Fail> {
+    let alloc = rt.alloc();
+    let file = NamedFile::new(
+        String::from_str(alloc, "a")?,
+        [1, 2, 3, 4, 5].to_vec(alloc)?,
+    );
+    let mut store = MemoryStore::new(
+        vec![in alloc; file]?,
+        vec![in alloc; (2, 2)]?,
+        vec![in alloc; 3]?,
+    );
+    let mut buffer = [0; 4];
+    assert_eq!(rt; find(&mut store, "a"), Ok(0));
+    assert_eq!(rt; read_at(&mut store, 0, 2, &mut buffer), Ok(3));
+    assert_eq!(rt; buffer, [3, 4, 5, 0]);
+    assert_eq!(rt; find(&mut store, "a"), Err(Failed), "the third call");
+    assert_eq!(rt;
+        read_at(&mut store, 0, 2, &mut buffer),
+        Err(Failed),
+        "the second read at 2"
+    );
+    assert_eq!(rt; read_at(&mut store, 0, 2, &mut buffer), Ok(3));
+    assert_eq!(rt; read_at(&mut store, 0, 5, &mut buffer), Ok(0));
+    assert_eq!(rt; find(&mut store, "b"), Err(Failed));
+    assert_eq!(rt; read_at(&mut store, 1, 0, &mut buffer), Err(Failed));
+    assert_eq!(rt; store.taken(), 6);
+    Ok(())
+}
+
+#[test]
+fn a_source_in_memory(rt: HostRuntime) -> Result<(), Fail> {
+    let alloc = rt.alloc();
+    let bytes = b"hello".to_vec(alloc)?;
+    let mut source = MemorySource::new(bytes, 2, vec![in alloc; 2]?);
+    let mut buffer = [0; 4];
+    assert_eq!(rt; read(&mut source, &mut buffer), Ok(2));
+    assert_eq!(rt; buffer, *b"he\0\0");
+    assert_eq!(rt;
+        read(&mut source, &mut buffer),
+        Err(Failed),
+        "the second call"
+    );
+    assert_eq!(rt; read(&mut source, &mut buffer), Ok(2));
+    assert_eq!(rt; buffer, *b"ll\0\0");
+    assert_eq!(rt; read(&mut source, &mut buffer), Ok(1));
+    assert_eq!(rt; read(&mut source, &mut buffer), Ok(0));
+    Ok(())
+}
+
+#[test]
+fn a_sink_in_memory(rt: HostRuntime) -> Result<(), Fail> {
+    let alloc = rt.alloc();
+    let mut sink = MemorySink::with_room(alloc, 5, 3, vec![in alloc; 2]?)?;
+    assert_eq!(rt; write(&mut sink, b"abcd"), Ok(3));
+    assert_eq!(rt; write(&mut sink, b"d"), Err(Failed), "the second call");
+    assert_eq!(rt; write(&mut sink, b"def"), Ok(2));
+    assert_eq!(rt; write(&mut sink, b"f"), Err(Failed), "the room is full");
+    assert_eq!(rt; sink.bytes(), b"abcde".as_slice());
+    Ok(())
+}
+
+#[test]
+fn a_store_over_files(rt: HostRuntime) -> Result<(), Fail> {
+    for name in ["first", "second", "third"] {
+        fs::write(&rt, name, name)?;
+    }
+    let mut store = FolderStore::new(&rt, rt.alloc())?;
+    let mut buffer = [0; 4];
+    assert_eq!(rt; find(&mut store, "missing"), Err(Failed));
+    assert_eq!(rt; find(&mut store, "first"), Ok(0));
+    assert_eq!(rt; find(&mut store, "second"), Ok(1));
+    assert_eq!(rt; find(&mut store, "first"), Ok(0));
+    assert_eq!(rt;
+        find(&mut store, "third"),
+        Err(Failed),
+        "only two are opened"
+    );
+    assert_eq!(rt; read_at(&mut store, 1, 2, &mut buffer), Ok(4));
+    assert_eq!(rt; buffer, *b"cond");
+    assert_eq!(rt; read_at(&mut store, 0, 5, &mut buffer), Ok(0));
+    assert_eq!(rt; read_at(&mut store, 2, 0, &mut buffer), Err(Failed));
+    Ok(())
+}
+
+#[test]
+fn a_source_over_a_reader(rt: HostRuntime) {
+    let reader = b"hello".as_slice();
+    let mut source = StdSource::new(reader);
+    let mut buffer = [0; 4];
+    assert_eq!(rt; read(&mut source, &mut buffer), Ok(4));
+    assert_eq!(rt; buffer, *b"hell");
+    assert_eq!(rt; read(&mut source, &mut buffer), Ok(1));
+    assert_eq!(rt; read(&mut source, &mut buffer), Ok(0));
+}
+
+#[test]
+fn a_sink_over_a_writer(rt: HostRuntime) {
+    let mut bytes = Vec::new(rt.alloc());
+    let mut sink = StdSink::new(&mut bytes);
+    assert_eq!(rt; write(&mut sink, b"hello"), Ok(5));
+    assert_eq!(rt; bytes.as_slice(), b"hello".as_slice());
+}
+
+#[test]
+fn a_sink_over_a_writer_with_no_room(rt: HostRuntime) {
+    let mut room = [0; 2];
+    let mut sink = StdSink::new(room.as_mut_slice());
+    assert_eq!(rt; write(&mut sink, b"abc"), Ok(2));
+    assert_eq!(rt; write(&mut sink, b"c"), Err(Failed));
+}
