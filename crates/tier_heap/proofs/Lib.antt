@@ -1,0 +1,5 @@
+mod OrderLemmas
+mod ExchangeLemmas
+mod SiftLemmas
+mod ChangeLemmas
+mod EndLemmas

@@ -1,0 +1,34 @@
+-- An end's order of ids is total, by rank and then by id.
+use Rattle.std.proofs.Common.{◌≡◌, ◌≢◌, ℕ, ◌+◌, ◌<◌, ◌≤◌, Bool, true, false, List, Option, arith}
+use Rattle.std.proofs.lemmas.Bool.Decides.{nat_tests}
+use Rattle.tier_heap.specs.Entries.{is_above}
+use Rattle.tier_heap.specs.EndHeap.{is_ahead, entry_of}
+use Rattle.tier_heap.specs.declared.end_heap.End.{End}
+use Rattle.tier_heap.specs.declared.end_heap.End.TheVariants.{Greatest, Least}
+
+above_not_below : (a b : ℕ × ℕ) → is_above a b ≡ true → is_above b a ≡ false
+above_not_below a b h = grind (arith, nat_tests)
+
+not_above_trans : (a b c : ℕ × ℕ) → is_above b a ≡ false → is_above c b ≡ false → is_above c a ≡ false
+not_above_trans a b c h l = grind (arith, nat_tests)
+
+not_above_self : (a : ℕ × ℕ) → is_above a a ≡ false
+not_above_self a = grind (arith, nat_tests)
+
+-- no id comes before itself
+pub not_ahead_self : (end : End) (ranks : List (Option ℕ)) (x : ℕ) → is_ahead end ranks x x ≡ false
+unfolding is_ahead
+not_ahead_self Greatest ranks x = not_above_self (entry_of ranks x)
+not_ahead_self Least ranks x = not_above_self (entry_of ranks x)
+
+-- of two ids only one comes first
+pub ahead_not_behind : (end : End) (ranks : List (Option ℕ)) (x y : ℕ) → is_ahead end ranks x y ≡ true → is_ahead end ranks y x ≡ false
+unfolding is_ahead
+ahead_not_behind Greatest ranks x y h = above_not_below (entry_of ranks x) (entry_of ranks y) h
+ahead_not_behind Least ranks x y h = above_not_below (entry_of ranks y) (entry_of ranks x) h
+
+-- what comes no sooner than an id that comes no sooner than a third comes no sooner than the third
+pub behind_trans : (end : End) (ranks : List (Option ℕ)) (x y z : ℕ) → is_ahead end ranks y x ≡ false → is_ahead end ranks z y ≡ false → is_ahead end ranks z x ≡ false
+unfolding is_ahead
+behind_trans Greatest ranks x y z h l = not_above_trans (entry_of ranks x) (entry_of ranks y) (entry_of ranks z) h l
+behind_trans Least ranks x y z h l = not_above_trans (entry_of ranks z) (entry_of ranks y) (entry_of ranks x) l h

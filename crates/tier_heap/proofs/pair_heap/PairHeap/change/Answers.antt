@@ -1,0 +1,21 @@
+use Rattle.std.proofs.Common.{rules, ◌≡◌, ◌≢◌, ℕ, ◌*◌, ◌+◌, ◌-◌, ◌/◌, ◌<◌, ◌≤◌, length, List, Option, Some, None, set, sym, ap, ◌∙◌, subst, refl, arith, IsSome}
+use Rattle.std.specs.Prelude.{swap}
+use Rattle.tier_heap.specs.Entries.{rank_at}
+use Rattle.tier_heap.specs.EndHeap.{is_ahead, id_at, place_of, IsIndex, Lists, IsParent, IsBehind, IsOrdered, IsLoose, IsLooseBelow, IsFirstChild, Leads, Exchanges, IsEndHeap}
+use Rattle.tier_heap.specs.declared.end_heap.EndHeap.{EndHeap}
+use Rattle.tier_heap.proofs.ExchangeLemmas.{Exchanged, exchanged}
+use Rattle.tier_heap.proofs.ChangeLemmas.{Agrees, agrees-set, put_back, rank_set, some_set, changed, room, inserted, removed, id_in_range, ordered_short}
+use Rattle.tier_heap.proofs.EndLemmas.{rank_from_some, first_greatest, first_least}
+use Rattle.tier_heap.proofs.pair_heap.PairHeap.change.Goals as goal
+
+pub change-requires-clause-heap : goal.change-requires-clause-heap
+change-requires-clause-heap c =
+    let view : c.self.inside.ranks.items ≡ c.args.self.now = c.self.view_is in
+    let entry = rank_from_some _ c.requires in
+    (entry.0, put_back _ _ _ _ _ _ c.deref.ensures.value (rw view entry.1) c.self.invariant.greatest)
+
+pub change-requires-2-clause-heap : goal.change-requires-2-clause-heap
+change-requires-2-clause-heap c =
+    let view : c.self.inside.ranks.items ≡ c.args.self.now = c.self.view_is in
+    let entry = rank_from_some _ c.requires in
+    (entry.0, put_back _ _ _ _ _ _ c.deref-2.ensures.value (rw view entry.1) c.self.invariant.least)
