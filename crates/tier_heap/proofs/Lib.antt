@@ -3,3 +3,4 @@ mod ExchangeLemmas
 mod SiftLemmas
 mod ChangeLemmas
 mod EndLemmas
+mod EmptyLemmas

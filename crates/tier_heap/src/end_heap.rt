@@ -1,6 +1,7 @@
 //! A binary heap of the ids of a map, with the place of each.
 
 ghost use Rattle.std.specs.Prelude.{◌≡◌, ℕ, ◌*◌, ◌+◌, ◌<◌, ◌≤◌, length, List, Option, Some, None, slice_set, replicate, IsTrue, IsSome, IsNone, IfOk, IfSome, IfNone, ◌↔◌, slice_index};
+ghost use Rattle.std.specs.List.{range_with_len};
 ghost use Rattle.tier_heap.specs.Entries.{rank_at, is_above, IsEmpty};
 ghost use Rattle.tier_heap.specs.EndHeap.{entry_of, is_ahead, id_at, place_of, IsIndex, Lists, IsParent, IsBehind, IsOrdered, IsLoose, IsLooseBelow, IsFirstChild, Leads, Exchanges, IsEndHeap};
 
@@ -43,7 +44,29 @@ fn has_rank_above(ranks: &[Option<u64>], id: u32, other: u32) -> bool
     rank > other_rank || (rank == other_rank && id < other)
 }
 
+/// All ids below a bound, each at its own place.
+fn all_ids(alloc: Global, ids: u32) -> Result<Vec<u32>, NoMemory>
+    ensures { IfOk result (λ list. list.items ≡ range_with_len 0 ids) }
+{
+    Ok((0..ids).collect(alloc)?)
+}
+
 impl EndHeap {
+    /// The heap of an empty map, with room for the ids below a bound.
+    pub fn with_ids(alloc: Global, end: End, ids: u32) -> Result<EndHeap, NoMemory>
+        ensures heap { IfOk result (λ heap. IsEndHeap (replicate ids None) heap) }
+        ensures end { IfOk result (λ heap. heap.end ≡ end) }
+    {
+        let order = all_ids(alloc, ids)?;
+        let places = all_ids(alloc, ids)?;
+        Ok(EndHeap {
+            end,
+            order,
+            places,
+            count: 0,
+        })
+    }
+
     /// The place of an id.
     fn place(&self, id: u32) -> usize
         requires { id < length self.now.places.items }

@@ -29,6 +29,20 @@ impl Model for PairHeap {
 }
 
 impl PairHeap {
+    /// An empty map with room for the ids below a bound. No other call takes memory.
+    pub fn with_ids(alloc: Global, ids: u32) -> Result<PairHeap, NoMemory>
+        ensures { IfOk result (λ heap. heap ≡ replicate ids None) }
+    {
+        let ranks = vec![in alloc; None; ids as usize]?;
+        let greatest = EndHeap::with_ids(alloc, End::Greatest, ids)?;
+        let least = EndHeap::with_ids(alloc, End::Least, ids)?;
+        Ok(PairHeap {
+            ranks,
+            greatest,
+            least,
+        })
+    }
+
     /// The rank of an id, None where it isn't in the map.
     pub fn rank_of(&self, id: u32) -> Option<u64>
         ensures { result ≡ rank_at self.now id }
