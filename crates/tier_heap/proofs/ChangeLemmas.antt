@@ -3,6 +3,7 @@ use Rattle.std.proofs.Common.{◌≡◌, ◌≢◌, ℕ, ◌+◌, ◌-◌, ◌*�
 use Rattle.std.proofs.lemmas.List.{get_or_past, set-set, set-get_or}
 use Rattle.std.proofs.lemmas.Bool.{cases_eq, cases_lt, false≢true}
 use Rattle.tier_heap.specs.Entries.{rank_at, is_above}
+use Rattle.tier_heap.specs.Laws.{id_in_range, rank_at-set_same, rank_at-set_other}
 use Rattle.tier_heap.specs.EndHeap.{entry_of, is_ahead, id_at, place_of, IsIndex, Lists, IsParent, IsBehind, IsOrdered, IsLoose, IsEndHeap}
 use Rattle.tier_heap.specs.declared.end_heap.End.{End}
 use Rattle.tier_heap.specs.declared.end_heap.End.TheVariants.{Greatest, Least}
@@ -10,21 +11,13 @@ use Rattle.tier_heap.specs.declared.end_heap.EndHeap.{EndHeap}
 use Rattle.tier_heap.proofs.OrderLemmas.{behind_trans}
 use Rattle.tier_heap.proofs.ExchangeLemmas.{Exchanged, index_kept}
 
--- an id with a rank is below the bound
-pub id_in_range : (ranks : List (Option ℕ)) (id : ℕ) → IsSome (rank_at ranks id) → id < length ranks
-id_in_range ranks id ranked =
-    ⊎_elim
-    (λ (within : id < length ranks). within)
-    (λ (past : length ranks ≤ id). absurd (false≢true (subst (λ (o : Option ℕ). is_some o ≡ true) (get_or_past ranks id None past) ranked)))
-    (cases_lt id (length ranks))
-
 -- two maps agree at all ids but one
 pub record Agrees (before ranks : List (Option ℕ)) (id : ℕ) : Type 0 where
   pub same_length : length before ≡ length ranks
   pub others : (other : ℕ) → other ≢ id → rank_at before other ≡ rank_at ranks other
 
 pub agrees-set : (ranks : List (Option ℕ)) (id : ℕ) (o : Option ℕ) → Agrees (set ranks id o) ranks id
-agrees-set ranks id o = record { same_length = length-set ranks id o; others = λ other ne. get_or-set_other ranks id other o None ne }
+agrees-set ranks id o = record { same_length = length-set ranks id o; others = λ other ne. rank_at-set_other ranks id other o ne }
 
 -- a heap of a map is one of the map that a change and its opposite give
 pub put_back : (ranks after : List (Option ℕ)) (heap : EndHeap) (id : ℕ) (o o' : Option ℕ) → after ≡ set ranks id o → rank_at ranks id ≡ o' → IsEndHeap ranks heap → IsEndHeap (set after id o') heap
@@ -32,11 +25,9 @@ put_back ranks after heap id o o' after_is was is_heap =
     let same : set after id o' ≡ ranks = ap (λ (l : List (Option ℕ)). set l id o') after_is ∙ set-set ranks id o o' ∙ ap (set ranks id) (sym was) ∙ set-get_or ranks id None in
     rw same is_heap
 
-pub rank_set : (ranks : List (Option ℕ)) (id : ℕ) (o : Option ℕ) → id < length ranks → rank_at (set ranks id o) id ≡ o
-rank_set ranks id o within = get_or-set_same ranks id o None within
-
+-- an id that was set to a rank is in the map
 pub some_set : (ranks : List (Option ℕ)) (id rank : ℕ) → id < length ranks → IsSome (rank_at (set ranks id (Some rank)) id)
-some_set ranks id rank within = rw (rank_set ranks id (Some rank) within) refl
+some_set ranks id rank within = rw (rank_at-set_same ranks id (Some rank) within) refl
 
 entry_same : (before ranks : List (Option ℕ)) (x : ℕ) → rank_at before x ≡ rank_at ranks x → entry_of before x ≡ entry_of ranks x
 entry_same before ranks x e = let entry : Option ℕ → ℕ × ℕ = λ o. (x, unwrap_or o 0) in ap entry e

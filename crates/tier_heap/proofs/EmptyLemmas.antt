@@ -5,11 +5,9 @@ use Rattle.std.proofs.lemmas.List.{length-replicate, get_or-replicate}
 use Rattle.std.proofs.lemmas.List.FromFn.{length-range_with_len, get_or-range_with_len}
 use Rattle.std.proofs.lemmas.Bool.{false≢true}
 use Rattle.tier_heap.specs.Entries.{rank_at}
+use Rattle.tier_heap.specs.Laws.{rank_at-replicate}
 use Rattle.tier_heap.specs.EndHeap.{id_at, place_of, IsIndex, Lists, IsOrdered, IsEndHeap}
 use Rattle.tier_heap.specs.declared.end_heap.EndHeap.{EndHeap}
-
-rank_in_empty : (ids id : ℕ) → id < length {A = Option ℕ} (replicate ids None) → rank_at (replicate ids None) id ≡ None
-rank_in_empty ids id within = get_or-replicate ids id None None (rw length-replicate at within)
 
 -- a heap of no ids, in which each id is at its own place
 pub empty_heap : (ids : ℕ) (heap : EndHeap) → ids < 2 ^ 32 → heap.order.items ≡ range_with_len 0 ids → heap.places.items ≡ range_with_len 0 ids → heap.count ≡ 0 → IsEndHeap (replicate ids None) heap
@@ -31,7 +29,7 @@ empty_heap ids heap fits order places count =
         };
         all_ids = order_length ∙ sym (length-replicate ids None);
         ranked = λ id within low. absurd (omega (arith, low, count));
-        placed = λ id within some. absurd (false≢true (subst (λ (o : Option ℕ). is_some o ≡ true) (rank_in_empty ids id within) some));
+        placed = λ id within some. absurd (false≢true (subst (λ (o : Option ℕ). is_some o ≡ true) (rank_at-replicate ids id) some));
       };
       ordered = record { behind = λ p c pc. absurd (omega (arith, pc.counted, count)) };
     }

@@ -3,14 +3,11 @@ use Rattle.std.proofs.Common.{◌≡◌, ◌≢◌, ℕ, ◌+◌, ◌*◌, ◌<�
 use Rattle.std.proofs.lemmas.Bool.{false≢true}
 use Rattle.std.proofs.lemmas.Bool.Decides.{nat_tests}
 use Rattle.tier_heap.specs.Entries.{rank_at, is_above, IsGreatest, IsLeast}
+use Rattle.tier_heap.specs.Laws.{id_in_range, above_from_not_below}
 use Rattle.tier_heap.specs.EndHeap.{entry_of, is_ahead, id_at, place_of, IsBehind, IsEndHeap}
 use Rattle.tier_heap.specs.declared.end_heap.End.TheVariants.{Greatest, Least}
 use Rattle.tier_heap.specs.declared.end_heap.EndHeap.{EndHeap}
-use Rattle.tier_heap.proofs.ChangeLemmas.{id_in_range}
 use Rattle.tier_heap.proofs.SiftLemmas.{first_ahead}
-
-above_from_not_below : (a b : ℕ × ℕ) → a.0 ≢ b.0 → is_above b a ≡ false → is_above a b ≡ true
-above_from_not_below a b ne h = grind (arith, nat_tests)
 
 -- the value in a `Some`
 pub rank_from_some : (o : Option ℕ) → IsSome o → (rank : ℕ) × (o ≡ Some rank)

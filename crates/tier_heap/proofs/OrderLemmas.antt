@@ -1,19 +1,9 @@
 -- An end's order of ids is total, by rank and then by id.
 use Rattle.std.proofs.Common.{◌≡◌, ◌≢◌, ℕ, ◌+◌, ◌<◌, ◌≤◌, Bool, true, false, List, Option, arith}
-use Rattle.std.proofs.lemmas.Bool.Decides.{nat_tests}
-use Rattle.tier_heap.specs.Entries.{is_above}
+use Rattle.tier_heap.specs.Laws.{above_not_below, not_above_self, not_above_trans}
 use Rattle.tier_heap.specs.EndHeap.{is_ahead, entry_of}
 use Rattle.tier_heap.specs.declared.end_heap.End.{End}
 use Rattle.tier_heap.specs.declared.end_heap.End.TheVariants.{Greatest, Least}
-
-above_not_below : (a b : ℕ × ℕ) → is_above a b ≡ true → is_above b a ≡ false
-above_not_below a b h = grind (arith, nat_tests)
-
-not_above_trans : (a b c : ℕ × ℕ) → is_above b a ≡ false → is_above c b ≡ false → is_above c a ≡ false
-not_above_trans a b c h l = grind (arith, nat_tests)
-
-not_above_self : (a : ℕ × ℕ) → is_above a a ≡ false
-not_above_self a = grind (arith, nat_tests)
 
 -- no id comes before itself
 pub not_ahead_self : (end : End) (ranks : List (Option ℕ)) (x : ℕ) → is_ahead end ranks x x ≡ false

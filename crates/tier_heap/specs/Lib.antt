@@ -1,3 +1,4 @@
 pub mod Entries
 pub mod EndHeap
 pub mod PairHeap
+pub mod Laws

@@ -3,5 +3,7 @@
 
 mod end_heap;
 mod pair_heap;
+#[cfg(test)]
+mod tests;
 
 pub use pair_heap::PairHeap;

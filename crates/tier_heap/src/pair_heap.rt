@@ -47,11 +47,7 @@ impl PairHeap {
     pub fn rank_of(&self, id: u32) -> Option<u64>
         ensures { result ≡ rank_at self.now id }
     {
-        if (id as usize) < self.ranks.len() {
-            self.ranks[id as usize]
-        } else {
-            None
-        }
+        *self.ranks.get(id as usize)?
     }
 
     /// Puts an id into the map.

@@ -5,7 +5,7 @@ use Rattle.tier_heap.specs.EndHeap.{is_ahead, id_at, place_of, IsIndex, Lists, I
 use Rattle.tier_heap.proofs.OrderLemmas.{not_ahead_self, ahead_not_behind, behind_trans}
 use Rattle.tier_heap.proofs.ExchangeLemmas.{exchanged, lists_kept}
 use Rattle.tier_heap.proofs.SiftLemmas.{IsStep, loose_up, loose_down, loose_below, ordered_at, first_ahead}
-use Rattle.tier_heap.proofs.ChangeLemmas.{agrees-set, changed, room, inserted, removed, id_in_range}
+use Rattle.tier_heap.proofs.ChangeLemmas.{agrees-set, changed, room, inserted, removed}
 use Rattle.tier_heap.proofs.EndLemmas.{first_greatest, first_least}
 use Rattle.tier_heap.proofs.end_heap.EndHeap.first_child.Goals as goal
 use Rattle.tier_heap.proofs.SiftLemmas.{is_first_child}

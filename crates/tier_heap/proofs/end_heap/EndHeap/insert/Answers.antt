@@ -4,7 +4,8 @@ use Rattle.tier_heap.specs.Entries.{rank_at}
 use Rattle.tier_heap.specs.EndHeap.{is_ahead, id_at, place_of, IsIndex, Lists, IsParent, IsBehind, IsOrdered, IsLoose, IsLooseBelow, IsFirstChild, Leads, Exchanges, IsEndHeap}
 use Rattle.tier_heap.specs.declared.end_heap.EndHeap.{EndHeap}
 use Rattle.tier_heap.proofs.ExchangeLemmas.{Exchanged, exchanged}
-use Rattle.tier_heap.proofs.ChangeLemmas.{Agrees, agrees-set, put_back, rank_set, some_set, changed, room, inserted, removed, id_in_range, ordered_short}
+use Rattle.tier_heap.proofs.ChangeLemmas.{Agrees, agrees-set, put_back, some_set, changed, room, inserted, removed, ordered_short}
+use Rattle.tier_heap.specs.Laws.{id_in_range, rank_at-set_same}
 use Rattle.tier_heap.proofs.EndLemmas.{first_greatest, first_least}
 use Rattle.tier_heap.proofs.end_heap.EndHeap.insert.Goals as goal
 
@@ -14,7 +15,7 @@ last_in ranks heap id before is_in =
     let agrees : Agrees (set ranks id None) ranks id = agrees-set ranks id None in
     let within : id < length ranks = id_in_range ranks id is_in in
     let within_before : id < length (set ranks id None) = rw agrees.same_length within in
-    let high : heap.count ≤ place_of heap id = room _ heap id before.lists within_before (rank_set ranks id None within) in
+    let high : heap.count ≤ place_of heap id = room _ heap id before.lists within_before (rank_at-set_same ranks id None within) in
     let low : place_of heap id < length heap.order.items = before.lists.index.places id (rw before.lists.all_ids within_before) in
     omega (arith, high, low)
 
@@ -27,7 +28,7 @@ kept ranks old new id at before is_in at_is order places count end =
     let within : id < length ranks = id_in_range ranks id is_in in
     let at_in : at < length old.order.items = rw at_is (before.lists.index.places id (rw (before.lists.all_ids, agrees.same_length) within)) in
     let x : Exchanged old new at old.count = exchanged old new at old.count before.lists.index order places at_in (last_in ranks old id before is_in) in
-    inserted _ ranks old new id at before agrees (rank_set ranks id None within) is_in at_is x count end
+    inserted _ ranks old new id at before agrees (rank_at-set_same ranks id None within) is_in at_is x count end
 
 pub exchange-requires-clause-other : goal.exchange-requires-clause-other
 exchange-requires-clause-other c = last_in _ _ _ c.requires.heap c.requires.present

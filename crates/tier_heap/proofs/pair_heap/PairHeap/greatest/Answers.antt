@@ -5,7 +5,8 @@ use Rattle.tier_heap.specs.EndHeap.{is_ahead, id_at, place_of, IsIndex, Lists, I
 use Rattle.tier_heap.specs.declared.end_heap.End.TheVariants.{Greatest, Least}
 use Rattle.tier_heap.specs.declared.end_heap.EndHeap.{EndHeap}
 use Rattle.tier_heap.proofs.ExchangeLemmas.{Exchanged, exchanged}
-use Rattle.tier_heap.proofs.ChangeLemmas.{Agrees, agrees-set, put_back, rank_set, some_set, changed, room, inserted, removed, id_in_range, ordered_short}
+use Rattle.tier_heap.proofs.ChangeLemmas.{Agrees, agrees-set, put_back, some_set, changed, room, inserted, removed, ordered_short}
+use Rattle.tier_heap.specs.Laws.{id_in_range, rank_at-set_same}
 use Rattle.tier_heap.proofs.EndLemmas.{first_greatest, first_least}
 use Rattle.tier_heap.proofs.pair_heap.PairHeap.greatest.Goals as goal
 
