@@ -1,10 +1,10 @@
 -- What a heap keeps when an id comes into the map, gets another rank, or leaves it.
-use Rattle.std.proofs.Common.{◌≡◌, ◌≢◌, ℕ, ◌+◌, ◌-◌, ◌*◌, ◌<◌, ◌≤◌, Bool, true, false, List, Option, Some, None, length, set, get_or, is_some, IsSome, unwrap_or, arith, sym, ◌∙◌, ap, subst, inl, inr, ⊎_elim, ◌⊎◌, refl, length-set, get_or-set_same, get_or-set_other}
-use Rattle.std.proofs.lemmas.List.{get_or_past, set-set, set-get_or}
+use Rattle.std.proofs.Common.{◌≡◌, ◌≢◌, ℕ, ◌+◌, ◌<◌, ◌≤◌, true, List, Option, Some, None, length, set, is_some, IsSome, unwrap_or, arith, sym, ◌∙◌, ap, subst, inl, inr, ⊎_elim, ◌⊎◌, refl, length-set}
+use Rattle.std.proofs.lemmas.List.{set-set, set-get_or}
 use Rattle.std.proofs.lemmas.Bool.{cases_eq, cases_lt, false≢true}
 use Rattle.tier_heap.specs.Entries.{rank_at, is_above}
 use Rattle.tier_heap.specs.Laws.{id_in_range, rank_at-set_same, rank_at-set_other}
-use Rattle.tier_heap.specs.EndHeap.{entry_of, is_ahead, id_at, place_of, IsIndex, Lists, IsParent, IsBehind, IsOrdered, IsLoose, IsEndHeap}
+use Rattle.tier_heap.specs.EndHeap.{entry_of, is_ahead, id_at, place_of, IsIndex, Lists, IsBehind, IsOrdered, IsLoose, IsEndHeap}
 use Rattle.tier_heap.specs.declared.end_heap.End.{End}
 use Rattle.tier_heap.specs.declared.end_heap.End.TheVariants.{Greatest, Least}
 use Rattle.tier_heap.specs.declared.end_heap.EndHeap.{EndHeap}

@@ -1,12 +1,11 @@
 -- The heap of an empty map.
-use Rattle.std.proofs.Common.{◌≡◌, ℕ, ◌+◌, ◌*◌, ◌<◌, ◌≤◌, ◌^◌, List, Option, Some, None, length, get_or, replicate, is_some, IsSome, true, arith, sym, ◌∙◌, ap, subst, zero-add}
+use Rattle.std.proofs.Common.{◌≡◌, ℕ, ◌<◌, ◌^◌, List, Option, None, length, get_or, replicate, is_some, true, arith, sym, ◌∙◌, ap, subst, zero-add}
 use Rattle.std.specs.List.{range_with_len}
-use Rattle.std.proofs.lemmas.List.{length-replicate, get_or-replicate}
+use Rattle.std.proofs.lemmas.List.{length-replicate}
 use Rattle.std.proofs.lemmas.List.FromFn.{length-range_with_len, get_or-range_with_len}
 use Rattle.std.proofs.lemmas.Bool.{false≢true}
-use Rattle.tier_heap.specs.Entries.{rank_at}
 use Rattle.tier_heap.specs.Laws.{rank_at-replicate}
-use Rattle.tier_heap.specs.EndHeap.{id_at, place_of, IsIndex, Lists, IsOrdered, IsEndHeap}
+use Rattle.tier_heap.specs.EndHeap.{id_at, place_of, IsEndHeap}
 use Rattle.tier_heap.specs.declared.end_heap.EndHeap.{EndHeap}
 
 -- a heap of no ids, in which each id is at its own place

@@ -1,7 +1,6 @@
 -- The first id of each heap is an end of the map.
-use Rattle.std.proofs.Common.{◌≡◌, ◌≢◌, ℕ, ◌+◌, ◌*◌, ◌<◌, ◌≤◌, Bool, true, false, List, Option, Some, None, length, is_some, IsSome, unwrap_or, arith, sym, ◌∙◌, ap, subst, refl}
+use Rattle.std.proofs.Common.{◌≡◌, ℕ, ◌<◌, false, List, Option, Some, None, length, IsSome, unwrap_or, arith, sym, ap, subst, refl}
 use Rattle.std.proofs.lemmas.Bool.{false≢true}
-use Rattle.std.proofs.lemmas.Bool.Decides.{nat_tests}
 use Rattle.tier_heap.specs.Entries.{rank_at, is_above, IsGreatest, IsLeast}
 use Rattle.tier_heap.specs.Laws.{id_in_range, above_from_not_below}
 use Rattle.tier_heap.specs.EndHeap.{entry_of, is_ahead, id_at, place_of, IsBehind, IsEndHeap}

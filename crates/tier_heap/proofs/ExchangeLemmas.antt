@@ -1,8 +1,7 @@
 -- What an exchange of two places keeps.
-use Rattle.std.proofs.Common.{◌≡◌, ◌≢◌, ℕ, ◌+◌, ◌<◌, ◌≤◌, ◌^◌, Bool, true, false, List, Option, length, get_or, swap, IsSome, arith, sym, ◌∙◌, ap, subst, ⊎_elim}
+use Rattle.std.proofs.Common.{◌≡◌, ◌≢◌, ℕ, ◌<◌, ◌≤◌, ◌^◌, List, Option, length, swap, arith, sym, ◌∙◌, ap, subst, ⊎_elim}
 use Rattle.std.proofs.lemmas.List.Edits.{Swapped, swapped_from_swap, length-swap}
 use Rattle.std.proofs.lemmas.Bool.{cases_eq}
-use Rattle.tier_heap.specs.Entries.{rank_at}
 use Rattle.tier_heap.specs.EndHeap.{id_at, place_of, IsIndex, Lists, Exchanges}
 use Rattle.tier_heap.specs.declared.end_heap.EndHeap.{EndHeap}
 

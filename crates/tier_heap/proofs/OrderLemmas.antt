@@ -1,5 +1,5 @@
 -- An end's order of ids is total, by rank and then by id.
-use Rattle.std.proofs.Common.{◌≡◌, ◌≢◌, ℕ, ◌+◌, ◌<◌, ◌≤◌, Bool, true, false, List, Option, arith}
+use Rattle.std.proofs.Common.{◌≡◌, ℕ, true, false, List, Option}
 use Rattle.tier_heap.specs.Laws.{above_not_below, not_above_self, not_above_trans}
 use Rattle.tier_heap.specs.EndHeap.{is_ahead, entry_of}
 use Rattle.tier_heap.specs.declared.end_heap.End.{End}

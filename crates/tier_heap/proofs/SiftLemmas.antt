@@ -1,8 +1,8 @@
 -- A step of an id up or down the heap, and what stands at the ends of such a walk.
-use Rattle.std.proofs.Common.{◌≡◌, ◌≢◌, ℕ, zero, suc, ◌+◌, ◌-◌, ◌/◌, ◌*◌, ◌<◌, ◌≤◌, Bool, true, false, List, Option, length, arith, sym, ◌∙◌, ap, subst, ⊎_elim}
+use Rattle.std.proofs.Common.{◌≡◌, ◌≢◌, ℕ, zero, suc, ◌-◌, ◌/◌, ◌<◌, ◌≤◌, List, Option, arith, sym, ◌∙◌, ap, subst, ⊎_elim}
 use Rattle.std.proofs.lemmas.List.Edits.{Swapped}
 use Rattle.std.proofs.lemmas.Bool.{cases_eq}
-use Rattle.tier_heap.specs.EndHeap.{is_ahead, id_at, place_of, IsParent, IsBehind, IsOrdered, IsLoose, IsLooseBelow, IsFirstChild, Leads, IsIndex, Exchanges}
+use Rattle.tier_heap.specs.EndHeap.{id_at, IsParent, IsBehind, IsOrdered, IsLoose, IsLooseBelow, IsFirstChild, Leads, IsIndex, Exchanges}
 use Rattle.tier_heap.specs.declared.end_heap.EndHeap.{EndHeap}
 use Rattle.tier_heap.proofs.ExchangeLemmas.{Exchanged, exchanged}
 use Rattle.tier_heap.proofs.OrderLemmas.{not_ahead_self, ahead_not_behind, behind_trans}

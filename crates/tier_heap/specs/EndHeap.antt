@@ -1,5 +1,5 @@
 -- What one end's heap keeps of a map: which ids it lists, in which order, and each id's place.
-use Rattle.std.specs.Prelude.{◌≡◌, ◌≢◌, ℕ, ◌+◌, ◌*◌, ◌^◌, ◌<◌, ◌≤◌, Bool, true, false, List, Option, Some, length, slice_index, slice_set, swap, IsSome, unwrap_or}
+use Rattle.std.specs.Prelude.{◌≡◌, ◌≢◌, ℕ, ◌+◌, ◌*◌, ◌^◌, ◌<◌, ◌≤◌, Bool, true, false, List, Option, length, slice_index, swap, IsSome, unwrap_or}
 use Rattle.tier_heap.specs.Entries.{rank_at, is_above}
 use Rattle.tier_heap.specs.declared.end_heap.End.{End}
 use Rattle.tier_heap.specs.declared.end_heap.End.TheVariants.{Greatest, Least}

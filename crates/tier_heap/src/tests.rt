@@ -1,5 +1,7 @@
 //! The ends of small heaps against an ordered set, and a large heap to its end.
 
+ghost use Rattle.std.specs.Prelude.{◌≡◌, ◌<◌, length};
+
 use crate::PairHeap;
 use std::cmp::Reverse;
 use std::collections::BTreeSet;
@@ -109,14 +111,21 @@ fn take_step(
     heap: &mut PairHeap,
     entries: &mut BTreeSet<(u64, Reverse<u32>)>,
     step: Step,
-) -> Result<(), Fail> {
+) -> Result<(), Fail>
+    requires { length heap.old ≡ 6 }
+    ensures { length heap.new ≡ 6 }
+{
     match step {
         Insert(id, rank) => {
+            assert!(rt; id < 6);
+            assert_eq!(rt; heap.rank_of(id), None);
             heap.insert(id, rank);
             entries.insert((rank, Reverse(id)))?;
         }
         Change(id, rank) => {
-            let before = heap.rank_of(id).ok_or("no such id")?;
+            let Some(before) = heap.rank_of(id) else {
+                return Err(Fail::from("no such id"));
+            };
             heap.change(id, rank);
             assert!(rt; entries.remove(&(before, Reverse(id))));
             entries.insert((rank, Reverse(id)))?;
@@ -132,7 +141,7 @@ fn take_step(
 #[test]
 fn has_the_ends_of_an_ordered_set(rt: HostRuntime) -> Result<(), Fail> {
     for steps in LISTS {
-        let mut heap = PairHeap::with_ids(rt.alloc(), 6).map_err(|_| "no memory")?;
+        let mut heap = PairHeap::with_ids(rt.alloc(), 6)?;
         let mut entries = BTreeSet::new(rt.alloc());
         for step in steps {
             take_step(&rt, &mut heap, &mut entries, step)?;
@@ -140,5 +149,47 @@ fn has_the_ends_of_an_ordered_set(rt: HostRuntime) -> Result<(), Fail> {
             assert_eq!(rt; heap.least(), entries.first().map(|entry| entry.1.0));
         }
     }
+    Ok(())
+}
+
+const MANY: u32 = 65_536;
+
+/// Puts an id into a heap, or gives it another rank.
+fn set_rank(heap: &mut PairHeap, id: u32, rank: u64)
+    requires { id < length heap.old }
+    ensures { length heap.new ≡ length heap.old }
+{
+    if heap.rank_of(id).is_some() {
+        heap.change(id, rank);
+    } else {
+        heap.insert(id, rank);
+    }
+}
+
+#[test]
+fn gives_many_ids_in_their_order(rt: HostRuntime) -> Result<(), Fail> {
+    let mut heap = PairHeap::with_ids(rt.alloc(), MANY)?;
+    for id in 0..MANY {
+        set_rank(&mut heap, id, u64::from(id) * 40_503 % 1_021);
+    }
+    for id in 0..MANY {
+        set_rank(&mut heap, id, u64::from(id) * 30_011 % 509);
+    }
+    let mut last = (u64::MAX, 0);
+    for _ in 0..MANY / 2 {
+        let greatest = heap.greatest().ok_or("empty too soon")?;
+        let rank = heap.remove(greatest).ok_or("no such id")?;
+        assert!(rt; rank < last.0 || (rank == last.0 && greatest > last.1));
+        last = (rank, greatest);
+    }
+    let mut last = (0, u32::MAX);
+    for _ in 0..MANY / 2 {
+        let least = heap.least().ok_or("empty too soon")?;
+        let rank = heap.remove(least).ok_or("no such id")?;
+        assert!(rt; rank > last.0 || (rank == last.0 && least < last.1));
+        last = (rank, least);
+    }
+    assert_eq!(rt; heap.greatest(), None);
+    assert_eq!(rt; heap.least(), None);
     Ok(())
 }

@@ -1,5 +1,4 @@
-use Rattle.std.proofs.Common.{◌≡◌, ℕ, IfOk, refl, arith, vec_items}
-use Rattle.std.specs.List.{range_with_len}
+use Rattle.std.proofs.Common.{refl, arith}
 use Rattle.std.proofs.lemmas.Iterator.{YieldsList-from_range, items_from_collect}
 use Rattle.tier_heap.proofs.end_heap.all_ids.Goals as goal
 

@@ -1,13 +1,9 @@
-use Rattle.std.proofs.Common.{rules, ◌≡◌, ◌≢◌, ℕ, ◌*◌, ◌+◌, ◌-◌, ◌/◌, ◌<◌, ◌≤◌, length, List, Option, Some, None, IfSome, set, sym, ap, ◌∙◌, subst, refl, arith, IsSome}
-use Rattle.std.specs.Prelude.{swap}
-use Rattle.tier_heap.specs.Entries.{rank_at, IsGreatest, IsLeast}
-use Rattle.tier_heap.specs.EndHeap.{is_ahead, id_at, place_of, IsIndex, Lists, IsParent, IsBehind, IsOrdered, IsLoose, IsLooseBelow, IsFirstChild, Leads, Exchanges, IsEndHeap}
-use Rattle.tier_heap.specs.declared.end_heap.End.TheVariants.{Greatest, Least}
+use Rattle.std.proofs.Common.{◌≡◌, ℕ, ◌<◌, List, Option, Some, None, IfSome}
+use Rattle.tier_heap.specs.Entries.{IsLeast}
+use Rattle.tier_heap.specs.EndHeap.{id_at, IsEndHeap}
+use Rattle.tier_heap.specs.declared.end_heap.End.TheVariants.{Least}
 use Rattle.tier_heap.specs.declared.end_heap.EndHeap.{EndHeap}
-use Rattle.tier_heap.proofs.ExchangeLemmas.{Exchanged, exchanged}
-use Rattle.tier_heap.proofs.ChangeLemmas.{Agrees, agrees-set, put_back, some_set, changed, room, inserted, removed, ordered_short}
-use Rattle.tier_heap.specs.Laws.{id_in_range, rank_at-set_same}
-use Rattle.tier_heap.proofs.EndLemmas.{first_greatest, first_least}
+use Rattle.tier_heap.proofs.EndLemmas.{first_least}
 use Rattle.tier_heap.proofs.pair_heap.PairHeap.least.Goals as goal
 
 -- the first id, where there is one
