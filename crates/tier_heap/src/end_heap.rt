@@ -1,9 +1,9 @@
 //! A binary heap of the ids of a map, with the place of each.
 
-ghost use Rattle.std.specs.Prelude.{◌≡◌, ℕ, ◌*◌, ◌+◌, ◌<◌, ◌≤◌, length, List, Option, Some, None, slice_set, replicate, IsTrue, IsSome, IsNone, IfOk, IfSome, IfNone, ◌↔◌, slice_index};
+ghost use Rattle.std.specs.Prelude.{◌≡◌, ℕ, ◌<◌, ◌↔◌, length, slice_set, replicate, IsSome, IsNone, IfOk, IfSome, IfNone};
 ghost use Rattle.std.specs.List.{range_with_len};
-ghost use Rattle.tier_heap.specs.Entries.{rank_at, is_above, IsEmpty};
-ghost use Rattle.tier_heap.specs.EndHeap.{entry_of, is_ahead, id_at, place_of, IsIndex, Lists, IsParent, IsBehind, IsOrdered, IsLoose, IsLooseBelow, IsFirstChild, Leads, Exchanges, IsEndHeap};
+ghost use Rattle.tier_heap.specs.Entries.{rank_at, is_above};
+ghost use Rattle.tier_heap.specs.EndHeap.{entry_of, is_ahead, id_at, place_of, IsIndex, Lists, IsParent, IsBehind, IsLoose, IsLooseBelow, IsFirstChild, Leads, Exchanges, IsEndHeap};
 
 use grid_vertex::NoMemory;
 use std::alloc::Global;

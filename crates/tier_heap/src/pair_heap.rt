@@ -1,6 +1,6 @@
 //! A finite map from ids to ranks with both its ends.
 
-ghost use Rattle.std.specs.Prelude.{◌≡◌, ℕ, ◌<◌, ◌↔◌, length, List, Option, Some, None, slice_set, replicate, IsSome, IsNone, IfOk, IfSome};
+ghost use Rattle.std.specs.Prelude.{◌≡◌, ◌<◌, ◌↔◌, length, slice_set, replicate, IsSome, IsNone, IfOk, IfSome};
 ghost use Rattle.tier_heap.specs.Entries.{rank_at, IsEmpty, IsGreatest, IsLeast};
 
 use crate::end_heap::{End, EndHeap};
@@ -9,6 +9,9 @@ use std::alloc::Global;
 use std::marker::Model;
 
 /// A finite map from ids to ranks, ordered by rank, the lesser id above where ranks are equal.
+///
+/// Both ends are found at once; `insert`, `change` and `remove` take a time that grows with the
+/// logarithm of the number of entries.
 #[derive(Drop)]
 pub struct PairHeap {
     ranks: Vec<Option<u64>>,

@@ -1,8 +1,8 @@
 use Rattle.std.proofs.Common.{◌≡◌, ℕ, ◌*◌, ◌+◌, sym, ◌∙◌, subst, arith}
 use Rattle.tier_heap.specs.EndHeap.{IsBehind}
 use Rattle.tier_heap.proofs.OrderLemmas.{ahead_not_behind}
-use Rattle.tier_heap.proofs.end_heap.EndHeap.first_child.Goals as goal
 use Rattle.tier_heap.proofs.SiftLemmas.{is_first_child}
+use Rattle.tier_heap.proofs.end_heap.EndHeap.first_child.Goals as goal
 use Rattle.tier_heap.proofs.end_heap.EndHeap.first_child.Goals.{else-right-self-via-then-right-self+else-is_ahead, else-right-self-via-else-right-self}
 
 pub returns-then-is_ahead-clause-first : goal.returns-then-is_ahead-clause-first

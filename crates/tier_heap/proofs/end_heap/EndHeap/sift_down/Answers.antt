@@ -1,8 +1,7 @@
 use Rattle.std.proofs.Common.{◌∙◌}
 use Rattle.tier_heap.proofs.ExchangeLemmas.{lists_kept}
-use Rattle.tier_heap.proofs.SiftLemmas.{loose_down}
+use Rattle.tier_heap.proofs.SiftLemmas.{is_step, loose_down}
 use Rattle.tier_heap.proofs.end_heap.EndHeap.sift_down.Goals as goal
-use Rattle.tier_heap.proofs.SiftLemmas.{is_step}
 
 -- one step down
 pub loop-child-preserved : goal.loop-child-preserved

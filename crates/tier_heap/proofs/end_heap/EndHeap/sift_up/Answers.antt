@@ -1,8 +1,7 @@
 use Rattle.std.proofs.Common.{ℕ, ◌-◌, ◌/◌, ◌<◌, ◌∙◌, arith}
 use Rattle.tier_heap.proofs.ExchangeLemmas.{lists_kept}
-use Rattle.tier_heap.proofs.SiftLemmas.{loose_up}
+use Rattle.tier_heap.proofs.SiftLemmas.{is_step, loose_up}
 use Rattle.tier_heap.proofs.end_heap.EndHeap.sift_up.Goals as goal
-use Rattle.tier_heap.proofs.SiftLemmas.{is_step}
 
 -- one step up
 pub loop-at-preserved : goal.loop-at-preserved
