@@ -1,0 +1,6 @@
+mod OrderLemmas
+mod ExchangeLemmas
+mod SiftLemmas
+mod ChangeLemmas
+mod EndLemmas
+mod EmptyLemmas

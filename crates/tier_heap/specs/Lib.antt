@@ -1,0 +1,4 @@
+pub mod Entries
+pub mod EndHeap
+pub mod PairHeap
+pub mod Laws
