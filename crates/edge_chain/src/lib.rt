@@ -1,0 +1,16 @@
+//! Sums of the edges of triangles, with sign: what is left of them is the border.
+//!
+//! An edge that two triangles pass in opposite directions cancels. `docs/MODEL.md` says what the
+//! sums are for.
+#![tactic(auto)]
+
+mod chains;
+mod differences;
+mod edges;
+mod sums;
+
+pub use chains::EdgeChain;
+pub use differences::Difference;
+
+#[cfg(test)]
+mod tests;
