@@ -1,0 +1,11 @@
+pub mod Before
+pub mod Ascending
+pub mod Roots
+pub mod Falls
+pub mod Members
+pub mod Cuts
+pub mod Answers
+pub mod Epochs
+pub mod Steps
+pub mod Parents
+pub mod Passing
