@@ -1,0 +1,23 @@
+use Rattle.std.proofs.Common.{◌≤◌, length, subst, arith}
+use Rattle.std.proofs.lemmas.List.{take_all}
+use Rattle.std.specs.List.{flat_map}
+use Rattle.file_model.specs.Lists.{triangles_of}
+use Rattle.text_model.specs.FrameText.{triangle_line}
+use Rattle.text_model.specs.Lines.{Adds}
+use Rattle.frame_writer.specs.Appending.{Adds-begins, Begins-then}
+use Rattle.frame_writer.proofs.LineLemmas.{on_err}
+use Rattle.frame_writer.proofs.FrameLemmas.{Adds-triangle, length-triangles_from}
+use Rattle.frame_writer.proofs.bodies.write_body.Goals as goal
+
+pub returns-in_err-write_triangle-clause-err : goal.returns-in_err-write_triangle-clause-err
+returns-in_err-write_triangle-clause-err c = on_err _ (Begins-then (Adds-begins c.loop-triangle.invariant) c.in_err-write_triangle.ensures.err)
+
+pub loop-triangle-preserved : goal.loop-triangle-preserved
+loop-triangle-preserved c = Adds-triangle (triangles_of c.args.body.now.lists) c.loop-triangle.triangle c.triangle.result c.triangle.ensures.there c.loop-triangle.invariant c.in_ok-write_triangle.ensures.ok
+
+pub returns-clause-ok : goal.returns-clause-ok
+returns-clause-ok c =
+    let lists = c.args.body.now.lists in
+    let count = length-triangles_from lists.points lists.corners in
+    let all : length (triangles_of lists) ≤ c.loop-triangle.triangle = omega (arith, count) in
+    subst (λ ts. Adds c.args.out.now.items c.loop-triangle.out.items (flat_map triangle_line ts)) (take_all c.loop-triangle.triangle (triangles_of lists) all) c.loop-triangle.invariant

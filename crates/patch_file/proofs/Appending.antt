@@ -1,0 +1,74 @@
+-- Texts that are written piece by piece.
+use Rattle.std.proofs.Common.{◌≡◌, ℕ, ◌+◌, ◌-◌, ◌<◌, List, [], ◌∷◌, ◌++◌, length, get_or, take, drop, map, All, Option, Result, Ok, Err, refl, sym, ap, subst, ◌∙◌}
+use Rattle.std.specs.Prelude.{IsErr}
+use Rattle.std.specs.List.{flat_map, AllByRecursion}
+use Rattle.std.proofs.Math.Seq.{take-add}
+use Rattle.std.proofs.lemmas.List.{append-nil, take_rest, take_more, drop_more, take-append-drop}
+use Rattle.std.proofs.lemmas.List.Concat.{flat_map-append, flat_map-cons}
+use Rattle.std.proofs.lemmas.List.Elements.{recursion_from_All}
+use Rattle.file_model.specs.declared.fields.Node.{Node}
+use Rattle.file_model.specs.declared.fields.PatchField.{PatchField}
+use Rattle.file_model.specs.Lists.{IndexLists}
+use Rattle.file_model.specs.Spelling.{node_text, field_text, header_text, index_text, body_text}
+use Rattle.patch_body.specs.Seen.{SeenBody}
+use Rattle.view_outside.specs.Streams.{appended}
+use Rattle.patch_file.specs.Headers.{header_spelling}
+use Rattle.patch_file.specs.Written.{Wrote, WritesPart, WritesPart-more, WritesPart-after, appended-after}
+use Rattle.patch_file.specs.PartsState.{IsSpelledIn}
+
+-- n bytes more of a text of which i were written
+pub bytes_more : (before between after : Option (List ℕ)) (bytes : List ℕ) (i n : ℕ) → between ≡ appended before (take i bytes) → after ≡ appended between (take n (take (length bytes - i) (drop i bytes))) → after ≡ appended before (take (i + n) bytes)
+bytes_more before between after bytes i n wrote writes =
+    let rest : after ≡ appended between (take n (drop i bytes)) = writes ∙ ap (λ (t : List ℕ). appended between (take n t)) (take_rest bytes i) in
+    appended-after before between after (take i bytes) (take n (drop i bytes)) wrote rest ∙ ap (appended before) (sym (take-add i n bytes))
+
+-- the texts of items in a row, up to one of them, its own, and those behind it
+flat_map-split : {X : Type 0} (text : X → List ℕ) (xs : List X) (i : ℕ) (d : X) → i < length xs → flat_map text xs ≡ flat_map text (take i xs) ++ (text (get_or xs i d) ++ flat_map text (drop (i + 1) xs))
+flat_map-split text xs i d lt =
+    ap (flat_map text) (sym (take-append-drop i xs) ∙ ap (λ ys. take i xs ++ ys) (drop_more xs i d lt)) ∙ flat_map-append text (take i xs) (get_or xs i d ∷ drop (i + 1) xs) ∙ ap (λ t. flat_map text (take i xs) ++ t) (flat_map-cons text (get_or xs i d) (drop (i + 1) xs))
+
+-- the text of an item more
+pub item_more : {X : Type 0} (text : X → List ℕ) (xs : List X) (i : ℕ) (d : X) (before between after : Option (List ℕ)) → i < length xs → between ≡ appended before (flat_map text (take i xs)) → after ≡ appended between (text (get_or xs i d)) → after ≡ appended before (flat_map text (take (i + 1) xs))
+item_more text xs i d before between after lt wrote writes =
+    let item = get_or xs i d in
+    let whole : flat_map text (take (i + 1) xs) ≡ flat_map text (take i xs) ++ text item = ap (flat_map text) (take_more xs i d lt) ∙ flat_map-append text (take i xs) (item ∷ []) ∙ ap (λ t. flat_map text (take i xs) ++ t) (flat_map-cons text item [] ∙ append-nil (text item)) in
+    appended-after before between after (flat_map text (take i xs)) (text item) wrote writes ∙ ap (appended before) (sym whole)
+
+-- the writer failed in the text of an item
+pub item_part : {X : Type 0} (text : X → List ℕ) (xs : List X) (i : ℕ) (d : X) (before between after : Option (List ℕ)) (item : List ℕ) → i < length xs → item ≡ text (get_or xs i d) → between ≡ appended before (flat_map text (take i xs)) → WritesPart between after item → WritesPart before after (flat_map text xs)
+item_part text xs i d before between after item lt is wrote part =
+    let behind = flat_map text (drop (i + 1) xs) in
+    let own : WritesPart between after (text (get_or xs i d)) = subst (WritesPart between after) is part in
+    subst (WritesPart before after) (sym (flat_map-split text xs i d lt))
+    (WritesPart-after before between after (flat_map text (take i xs)) (text (get_or xs i d) ++ behind) wrote (WritesPart-more between after (text (get_or xs i d)) behind own))
+
+-- ---- what a writer did
+
+pub Wrote-failed : {T E : Type 0} (result : Result T E) (before after : Option (List ℕ)) (text : List ℕ) → IsErr result → WritesPart before after text → Wrote result before after text
+Wrote-failed (Ok x) before after text failed part = absurd cc
+Wrote-failed (Err e) before after text failed part = part
+
+-- the last piece is written behind those before it
+pub Wrote-after : {T E : Type 0} (result : Result T E) (before between after : Option (List ℕ)) (front text : List ℕ) → between ≡ appended before front → Wrote result between after text → Wrote result before after (front ++ text)
+Wrote-after (Ok x) before between after front text wrote writes = appended-after before between after front text wrote writes
+Wrote-after (Err e) before between after front text wrote part = WritesPart-after before between after front text wrote part
+
+-- ---- bodies by their bytes
+
+spelled : (version : ℕ) (bodies : List SeenBody) → AllByRecursion (IsSpelledIn version) bodies → flat_map (λ body. body.bytes) bodies ≡ flat_map (body_text version) (map (λ body. body.lists) bodies)
+spelled version [] are = refl
+spelled version (body ∷ bodies) are =
+    let first : body.bytes ≡ body_text version body.lists = are.0 in
+    let others = spelled version bodies are.1 in
+    flat_map-cons (λ (b : SeenBody). b.bytes) body bodies ∙ ap (λ (t : List ℕ). t ++ flat_map (λ (b : SeenBody). b.bytes) bodies) first ∙ ap (λ (t : List ℕ). body_text version body.lists ++ t) others ∙ sym (flat_map-cons (body_text version) body.lists (map (λ (b : SeenBody). b.lists) bodies))
+
+pub bodies_text : (version : ℕ) (bodies : List SeenBody) → All (IsSpelledIn version) bodies → flat_map (λ body. body.bytes) bodies ≡ flat_map (body_text version) (map (λ body. body.lists) bodies)
+bodies_text version bodies are = spelled version bodies (recursion_from_All (IsSpelledIn version) bodies are)
+
+-- ---- what stands before the bodies
+
+pub index_text-is : (index : IndexLists) (version : ℕ) (nodes : List Node) (fields : List PatchField) (header : List ℕ) → header ≡ header_spelling version (length nodes) (length fields) → record { version = version; nodes = nodes; fields = fields } ≡ index → header ++ (flat_map node_text nodes ++ flat_map field_text fields) ≡ index_text index
+unfolding index_text header_text
+index_text-is index version nodes fields header spells same =
+    let units = flat_map node_text nodes ++ flat_map field_text fields in
+    ap (λ (h : List ℕ). h ++ units) spells ∙ ap index_text same

@@ -1,0 +1,9 @@
+pub mod Taking
+pub mod Seen
+pub mod Headers
+pub mod Offsets
+pub mod IndexState
+pub mod BodyRead
+pub mod Written
+pub mod PartsState
+pub mod PartsView

@@ -1,0 +1,27 @@
+//! Patch files: reading them piece by piece from a store, and writing them to a sink.
+//!
+//! `docs/FORMAT.md` tells the format. What a reader answers is what reading the whole file from left to
+//! right gives.
+#![tactic(auto)]
+
+mod header;
+mod index;
+mod parts;
+mod readers;
+mod reading;
+mod sending;
+mod sizes;
+mod spelling;
+mod units;
+mod writing;
+
+pub use file_model::{FileFault, Node, PatchField, ReadRefusal, Try, WriteFault};
+pub use index::Index;
+pub use parts::FileParts;
+pub use patch_body::Body;
+pub use readers::{read_body, read_end, read_index};
+pub use sending::write_all;
+pub use writing::write_file;
+
+#[cfg(test)]
+mod tests;
