@@ -1,0 +1,5 @@
+pub mod RootLemmas
+pub mod KeptLemmas
+pub mod BaseLemmas
+pub mod AnswerLemmas
+pub mod EndingLemmas

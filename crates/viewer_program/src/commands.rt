@@ -1,0 +1,12 @@
+//! The commands that the program's words name.
+
+/// What the words ask for.
+#[derive(Clone, Copy, Debug, PartialEq, Eq)]
+pub enum Command {
+    /// The frame of the root's patches.
+    Base,
+}
+
+mod reading;
+
+pub use reading::{command_of, file_name};
