@@ -1,0 +1,25 @@
+//! The root of a graph.
+
+ghost use Rattle.std.specs.Prelude.{◌≡◌, ◌≤◌, length};
+ghost use Rattle.mesh_model.specs.Graph.{nodes_where, only_root};
+ghost use Rattle.mesh_graph.specs.Arcs.{is_bare_at};
+
+use crate::arcs::Arcs;
+use mesh_model::DagFault;
+
+/// The one node without incoming patches, or the fault where there is none or are several.
+pub fn find_root(incoming: &Arcs) -> Result<u32, DagFault>
+    requires { length incoming.now ≤ 65536 }
+    ensures { result ≡ only_root (nodes_where (length incoming.now) (is_bare_at incoming.now)) }
+{
+    let mut found = None;
+    for node in 0..incoming.node_count() as u32 {
+        if incoming.is_bare(node) {
+            if let Some(first) = found {
+                return Err(DagFault::TwoRoots(first, node));
+            }
+            found = Some(node);
+        }
+    }
+    found.ok_or(DagFault::NoRoot)
+}
