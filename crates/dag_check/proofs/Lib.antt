@@ -1,0 +1,4 @@
+pub mod MeshLaws
+pub mod AddedLaws
+pub mod FinishLaws
+pub mod CheckerLaws
