@@ -9,14 +9,14 @@ use Rattle.mesh_model.specs.declared.refusals.DagFault.{DagFault}
 use Rattle.mesh_model.specs.declared.refusals.DagFault.TheVariants.{NoRoot, TwoRoots, Cycle, ErrorNotNested, BallNotNested, Border}
 use Rattle.mesh_model.specs.Graph.{leads_to, leads_from}
 use Rattle.mesh_model.specs.Frames.{triangles_where}
-use Rattle.mesh_model.specs.Nets.{AreOpen}
+use Rattle.mesh_model.specs.Nets.{AreOpen, HasOpenPairs}
 use Rattle.mesh_graph.specs.Graphs.{IsGraphOf, IsVerdict}
 use Rattle.grid_vertex.specs.declared.triangles.Triangle.{Triangle}
 use Rattle.std.specs.Map.{keys_of}
 use Rattle.mesh_model.specs.Accepted.{IsAccepted, IsNestedGraph, IsGraphFault, IsMeshFault, KeepsNets, is_inner, triangles_to, triangles_out_of}
 use Rattle.edge_chain.specs.declared.differences.Difference.{Difference}
 use Rattle.edge_chain.specs.Chains.{Chain, IsNetOf, IsFirstNetDifference}
-use Rattle.dag_check.specs.Added.{first_triangles, file_with, HasOpenPairs}
+use Rattle.dag_check.specs.Added.{first_triangles, file_with}
 use Rattle.dag_check.specs.Checkers.{CheckerSeen, IsChecker, Follows, HoldNets}
 use Rattle.dag_check.proofs.AddedLaws.{along}
 

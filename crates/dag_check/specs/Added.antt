@@ -1,9 +1,8 @@
 -- The bodies that were added, and what is open of them.
-use Rattle.std.specs.Prelude.{◌≡◌, ℕ, Bool, List, length, take}
+use Rattle.std.specs.Prelude.{ℕ, Bool, List, take}
 use Rattle.grid_vertex.specs.declared.triangles.Triangle.{Triangle}
 use Rattle.file_model.specs.declared.fields.PatchField.{PatchField}
 use Rattle.file_model.specs.Lists.{BodyLists, IndexLists, FileLists}
-use Rattle.mesh_model.specs.Nets.{Pair, AreOpen}
 use Rattle.mesh_model.specs.Frames.{triangles_where}
 
 -- the triangles of those of the first n patches whose fields pass the test
@@ -13,9 +12,3 @@ first_triangles n test fields bodies = triangles_where test (take n fields) bodi
 -- the file with these bodies
 abbrev pub file_with : IndexLists → List BodyLists → FileLists
 file_with index bodies = record { index = index; bodies = bodies }
-
--- so many pairs are open in the triangles
-pub record HasOpenPairs (triangles : List Triangle) (count : ℕ) : Type 0 where
-  pub pairs : List Pair
-  pub are_open : AreOpen triangles pairs
-  pub number : length pairs ≡ count

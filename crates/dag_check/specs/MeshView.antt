@@ -1,10 +1,9 @@
 -- What callers see of an accepted mesh.
 use Rattle.std.specs.Prelude.{◌≡◌, ℕ, List, map, Option, unwrap_or}
-use Rattle.std.specs.List.{sum_by}
-use Rattle.file_model.specs.declared.fields.PatchField.{PatchField}
 use Rattle.file_model.specs.Lists.{IndexLists}
 use Rattle.file_model.specs.Rules.{IsIndex}
 use Rattle.mesh_model.specs.Accepted.{IsNestedGraph}
+use Rattle.mesh_model.specs.Frames.{triangles_in_all}
 use Rattle.mesh_model.specs.Meshes.{MeshLists}
 use Rattle.mesh_graph.specs.Graphs.{GraphSeen, IsGraphOf}
 
@@ -22,10 +21,6 @@ mesh_lists index graph root = record { index = index; root = root; levels = leve
 
 abbrev pub mesh_seen : IndexLists → GraphSeen → ℕ → ℕ → MeshSeen
 mesh_seen index graph root base_open = record { lists = mesh_lists index graph root; base_open = base_open }
-
--- how many triangles the patches have together
-abbrev pub triangles_in_all : List PatchField → ℕ
-triangles_in_all fields = sum_by (λ (f : PatchField). f.triangles) fields
 
 -- what holds of what a mesh is made of
 pub record IsMeshState (index : IndexLists) (seen : GraphSeen) (root triangle_sum : ℕ) : Type 0 where

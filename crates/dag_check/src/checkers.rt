@@ -37,7 +37,8 @@ impl Checker {
     ghost use Rattle.file_model.specs.Lists.{BodyLists};
     ghost use Rattle.mesh_model.specs.Accepted.{IsAccepted, IsMeshFault, triangles_out_of};
     ghost use Rattle.mesh_model.specs.Meshes.{IsMesh};
-    ghost use Rattle.dag_check.specs.Added.{file_with, HasOpenPairs};
+    ghost use Rattle.mesh_model.specs.Nets.{HasOpenPairs};
+    ghost use Rattle.dag_check.specs.Added.{file_with};
     ghost use Rattle.dag_check.specs.Checkers.{CheckerSeen, Follows};
 
     /// A check to which no body was added.

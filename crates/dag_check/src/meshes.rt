@@ -29,7 +29,8 @@ impl Mesh {
     ghost use Rattle.mesh_model.specs.Graph.{incoming, outgoing, is_sink};
     ghost use Rattle.mesh_model.specs.Accepted.{IsNestedGraph};
     ghost use Rattle.mesh_model.specs.Meshes.{IsMesh};
-    ghost use Rattle.dag_check.specs.MeshView.{mesh_seen, IsMeshState, triangles_in_all};
+    ghost use Rattle.mesh_model.specs.Frames.{triangles_in_all};
+    ghost use Rattle.dag_check.specs.MeshView.{mesh_seen, IsMeshState};
 
     pub(crate) fn with(index: Index, graph: MeshGraph, root: u32, base_open: u64) -> Mesh
         requires { IsMeshState index graph root (triangles_in_all index.fields) }

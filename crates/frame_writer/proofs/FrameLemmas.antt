@@ -1,5 +1,5 @@
 -- Frames: their triangles body by body, and their lines in order.
-use Rattle.std.proofs.Common.{◌≡◌, ℕ, suc, ◌+◌, ◌<◌, List, [], ◌∷◌, ◌++◌, length, map, take, get_or, Some, refl, sym, ap, subst, ◌∙◌, append-nil, length-append}
+use Rattle.std.proofs.Common.{◌≡◌, ℕ, suc, ◌+◌, ◌<◌, List, [], ◌∷◌, ◌++◌, length, map, take, get_or, Some, refl, sym, ap, subst, ◌∙◌, append-nil, append_assoc}
 use Rattle.std.specs.List.{flat_map, slice_get}
 use Rattle.std.proofs.lemmas.Option.{slice_get_within, get_or_from_slice_get}
 use Rattle.std.proofs.lemmas.List.Concat.{flat_map-append}
@@ -34,9 +34,9 @@ triangles_in-take_more value xs i d within =
     ∙ ap (λ t. triangles_in (map value (take i xs)) ++ t) (append-nil (of_body (value (get_or xs i d))))
 
 -- the lines of a frame in order
-pub Adds-frame : (frame : Frame) {a b c d e f : List ℕ} → Adds a b (head_line frame) → Adds b c (cut_line frame.cut) → Adds c d (tries_line frame.tries) → Adds d e (patches_line frame.patches) → Adds e f (flat_map triangle_line frame.triangles) → Adds a f (frame_text frame)
+pub Adds-frame : (open_edges : ℕ) (frame : Frame) {a b c d e f : List ℕ} → Adds a b (head_line open_edges frame) → Adds b c (cut_line frame.cut) → Adds c d (tries_line frame.tries) → Adds d e (patches_line frame.patches) → Adds e f (flat_map triangle_line frame.triangles) → Adds a f (frame_text open_edges frame)
 unfolding frame_text front_lines
-Adds-frame frame head cut tries patches triangles = Adds-then (Adds-then head (Adds-then cut (Adds-then tries patches))) triangles
+Adds-frame open_edges frame head cut tries patches triangles = Adds-then (Adds-then head (Adds-then cut (Adds-then tries patches))) triangles
 
 -- the line of one triangle more
 pub Adds-triangle : (triangles : List Triangle) (i : ℕ) (triangle : Triangle) {a b c : List ℕ} → slice_get triangles i ≡ Some triangle → Adds a b (flat_map triangle_line (take i triangles)) → Adds b c (triangle_line triangle) → Adds a c (flat_map triangle_line (take (i + 1) triangles))
@@ -52,10 +52,9 @@ Adds-body value xs i d {a} {b} {c} within before lines =
     let more = ap (flat_map triangle_line) (triangles_in-take_more value xs i d within) ∙ flat_map-append triangle_line (triangles_in (map value (take i xs))) (triangles_of (value (get_or xs i d)).lists) in
     subst (Adds a c) (sym more) (Adds-then before lines)
 
--- how many triangles one body more gives
-pub length-triangles_in-take_more : {X : Type 0} (value : X → SeenBody) (xs : List X) (i : ℕ) (d : X) → i < length xs → length (triangles_in (map value (take (i + 1) xs))) ≡ length (triangles_in (map value (take i xs))) + length (value (get_or xs i d)).lists.corners
-length-triangles_in-take_more value xs i d within =
-    let body = (value (get_or xs i d)).lists in
-    ap length (triangles_in-take_more value xs i d within)
-    ∙ length-append (triangles_in (map value (take i xs))) (triangles_of body)
-    ∙ ap (λ n. length (triangles_in (map value (take i xs))) + n) (length-triangles_from body.points body.corners)
+-- one element more behind a front
+pub append-take_one : {X : Type 0} (front xs : List X) (i : ℕ) (x : X) → slice_get xs i ≡ Some x → (front ++ take i xs) ++ (x ∷ []) ≡ front ++ take (i + 1) xs
+append-take_one front xs i x at =
+    let within = slice_get_within xs i x at in
+    let here = get_or_from_slice_get xs i x x at in
+    append_assoc front (take i xs) (x ∷ []) ∙ ap (λ t. front ++ t) (ap (λ (y : _). take i xs ++ (y ∷ [])) (sym here) ∙ sym (take_more xs i x within))

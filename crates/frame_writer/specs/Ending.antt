@@ -31,10 +31,10 @@ begins_line-triangles [] = refl
 begins_line-triangles (t ∷ ts) = begins_line-append (triangle_line t) (flat_map triangle_line ts) (begins_line-line_of _ _) (begins_line-triangles ts)
 
 -- a line begins behind a frame
-pub begins_line-frame_text : (frame : Frame) → begins_line (frame_text frame) ≡ true
+pub begins_line-frame_text : (open_edges : ℕ) (frame : Frame) → begins_line (frame_text open_edges frame) ≡ true
 unfolding frame_text front_lines head_line cut_line tries_line patches_line
-begins_line-frame_text frame =
+begins_line-frame_text open_edges frame =
     let tries = begins_line-append (tries_line frame.tries) (patches_line frame.patches) (begins_line-line_of _ _) (begins_line-line_of _ _) in
     let cut = begins_line-append (cut_line frame.cut) (tries_line frame.tries ++ patches_line frame.patches) (begins_line-line_of _ _) tries in
-    let head = begins_line-append (head_line frame) (cut_line frame.cut ++ (tries_line frame.tries ++ patches_line frame.patches)) (begins_line-line_of _ _) cut in
-    begins_line-append (front_lines frame) (flat_map triangle_line frame.triangles) head (begins_line-triangles frame.triangles)
+    let head = begins_line-append (head_line open_edges frame) (cut_line frame.cut ++ (tries_line frame.tries ++ patches_line frame.patches)) (begins_line-line_of _ _) cut in
+    begins_line-append (front_lines open_edges frame) (flat_map triangle_line frame.triangles) head (begins_line-triangles frame.triangles)

@@ -4,7 +4,8 @@ use Rattle.std.specs.List.{flat_map}
 use Rattle.grid_vertex.specs.declared.triangles.Triangle.{Triangle}
 use Rattle.file_model.specs.declared.fields.Try.{Try}
 use Rattle.file_model.specs.Lists.{triangles_of}
-use Rattle.text_model.specs.FrameText.{Frame}
+use Rattle.text_model.specs.FrameText.{Frame, IsFrameText}
+use Rattle.text_model.specs.Lines.{Adds}
 use Rattle.patch_body.specs.Seen.{SeenBody}
 
 -- the triangles of the bodies, in order
@@ -18,3 +19,9 @@ AreBodiesOf patches bodies = map (λ (body : SeenBody). body.patch) bodies ≡ p
 -- the frame of these patches with their bodies' triangles
 abbrev pub frame_of : ℕ → ℕ → List ℕ → List Try → List ℕ → List SeenBody → Frame
 frame_of session number cut tries patches bodies = record { session = session; number = number; cut = cut; tries = tries; patches = patches; triangles = triangles_in bodies }
+
+-- the text of the frame was appended
+pub record AddsFrame (before after : List ℕ) (frame : Frame) : Type 0 where
+  pub text : List ℕ
+  pub is_text : IsFrameText frame text
+  pub adds : Adds before after text

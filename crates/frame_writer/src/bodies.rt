@@ -1,29 +1,46 @@
 //! The triangles of bodies.
 
-ghost use Rattle.std.specs.Prelude.{◌≡◌, ◌≤◌, length, map, OnOk, OnErr};
+ghost use Rattle.std.specs.Prelude.{◌≡◌, ◌+◌, ◌*◌, ◌≤◌, List, ◌++◌, length, map, OnOk, OnErr, IfOk};
 ghost use Rattle.std.specs.Arc.{arc_value};
 ghost use Rattle.std.specs.List.{flat_map};
+ghost use Rattle.grid_vertex.specs.declared.triangles.Triangle.{Triangle};
 ghost use Rattle.file_model.specs.Lists.{triangles_of};
+ghost use Rattle.edge_chain.specs.Chains.{IsNetOf};
 ghost use Rattle.text_model.specs.FrameText.{triangle_line};
 ghost use Rattle.text_model.specs.Lines.{Adds};
 ghost use Rattle.frame_writer.specs.Appending.{Begins};
 ghost use Rattle.frame_writer.specs.Frames.{triangles_in};
 
 use crate::triangles::write_triangle;
+use edge_chain::EdgeChain;
 use grid_vertex::NoMemory;
 use patch_file::Body;
+use std::alloc::Global;
 use std::sync::Arc;
 
-/// How many triangles the bodies have.
-pub fn count_triangles(bodies: &[Arc<Body>]) -> u64
-    requires { length bodies.now ≤ 65536 }
-    ensures { result ≡ length (triangles_in (map arc_value bodies.now)) }
+/// Adds the edges of the body's triangles.
+fn add_edges(body: &Body, chain: &mut EdgeChain) -> Result<(), NoMemory>
+    requires { chain.old.count ≤ 4294967295 * 65536 }
+    ensures few { OnOk result (chain.new.count ≤ chain.old.count + 4294967295) }
+    ensures nets { OnOk result ((triangles : List Triangle) → IsNetOf triangles chain.old
+        → IsNetOf (triangles ++ triangles_of body.now.lists) chain.new) }
 {
-    let mut count: u64 = 0;
-    for body in bodies {
-        count += u64::from(body.triangle_count());
+    for triangle in 0..body.triangle_count() {
+        chain.add(body.triangle(triangle))?;
     }
-    count
+    Ok(())
+}
+
+/// The sums of the edges of the bodies' triangles.
+pub fn edges_of(alloc: Global, bodies: &[Arc<Body>]) -> Result<EdgeChain, NoMemory>
+    requires { length bodies.now ≤ 65536 }
+    ensures { IfOk result (λ chain. IsNetOf (triangles_in (map arc_value bodies.now)) chain) }
+{
+    let mut chain = EdgeChain::new(alloc);
+    for body in bodies {
+        add_edges(body, &mut chain)?;
+    }
+    Ok(chain)
 }
 
 /// Appends the lines of the body's triangles.

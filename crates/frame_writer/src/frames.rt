@@ -1,23 +1,26 @@
 //! The text of a frame.
 
-ghost use Rattle.std.specs.Prelude.{◌≡◌, ◌≤◌, true, [], length, map, OnOk, OnErr};
+ghost use Rattle.std.specs.Prelude.{◌≡◌, ◌≤◌, true, List, [], length, map, OnOk, OnErr};
 ghost use Rattle.std.specs.Arc.{arc_value};
-ghost use Rattle.text_model.specs.FrameText.{head_line, tries_line, frame_text};
+ghost use Rattle.edge_chain.specs.Chains.{IsNetOf};
+ghost use Rattle.patch_body.specs.Seen.{SeenBody};
+ghost use Rattle.text_model.specs.FrameText.{head_line, tries_line};
 ghost use Rattle.text_model.specs.Lines.{Adds, begins_line, line_of, decimals};
 ghost use Rattle.frame_writer.specs.Appending.{Begins};
-ghost use Rattle.frame_writer.specs.Frames.{AreBodiesOf, frame_of};
+ghost use Rattle.frame_writer.specs.Frames.{AreBodiesOf, AddsFrame, frame_of, triangles_in};
 
-use crate::bodies::{count_triangles, write_bodies};
+use crate::bodies::{edges_of, write_bodies};
 use crate::lines::{add_line, begin_line, end_line};
 use crate::parts::Part;
 use crate::words::{add_numbers, add_tries};
+use edge_chain::EdgeChain;
 use grid_vertex::NoMemory;
 use patch_file::{Body, Try};
 use std::alloc::Global;
 use std::sync::Arc;
 
-/// Appends the line of whose frame it is, of its number, and of how many nodes, patches and triangles
-/// it has.
+/// Appends the line of whose frame it is, of its number, and of how many nodes, patches, triangles and open
+/// edges it has.
 #[tactic(auto, unfolding(text_model::specs::FrameText::head_line))]
 fn write_head(
     alloc: Global,
@@ -25,13 +28,12 @@ fn write_head(
     number: u64,
     cut: &[u32],
     patches: &[u32],
-    bodies: &[Arc<Body>],
+    chain: &EdgeChain,
     out: &mut Vec<u8>,
 ) -> Result<(), NoMemory>
-    requires { length bodies.now ≤ 65536 }
     // The tries aren't told in this line.
-    ensures ok { OnOk result (Adds out.old.items out.new.items
-        (head_line (frame_of session number cut.now [] patches.now (map arc_value bodies.now)))) }
+    ensures ok { OnOk result ((bodies : List SeenBody) → IsNetOf (triangles_in bodies) chain.now → Adds out.old.items out.new.items
+        (head_line (length chain.now.entries) (frame_of session number cut.now [] patches.now bodies))) }
     ensures err { OnErr result (Begins out.old.items out.new.items) }
 {
     let counts = [
@@ -42,7 +44,9 @@ fn write_head(
         Part::Word("patches"),
         Part::Number(patches.len() as u64),
         Part::Word("triangles"),
-        Part::Number(count_triangles(bodies)),
+        Part::Number(chain.triangles()),
+        Part::Word("open"),
+        Part::Number(chain.open_edges()),
     ];
     add_line(alloc, "frame", &counts, out)
 }
@@ -74,7 +78,7 @@ fn write_tries(alloc: Global, tries: &[Try], out: &mut Vec<u8>) -> Result<(), No
     end_line(alloc, out)
 }
 
-/// Appends the frame's text.
+/// Appends the frame's text. Its open edges are counted in the sums of its triangles' edges.
 pub fn frame_text(
     alloc: Global,
     session: u32,
@@ -88,12 +92,13 @@ pub fn frame_text(
     requires begins { begins_line out.old.items ≡ true }
     requires count { length patches.now ≤ 65536 }
     requires bodies { AreBodiesOf patches.now (map arc_value bodies.now) }
-    ensures ok { OnOk result (Adds out.old.items out.new.items
-        (frame_text (frame_of session number cut.now tries.now patches.now (map arc_value bodies.now)))) }
+    ensures ok { OnOk result (AddsFrame out.old.items out.new.items
+        (frame_of session number cut.now tries.now patches.now (map arc_value bodies.now))) }
     ensures ended { OnOk result (begins_line out.new.items ≡ true) }
     ensures err { OnErr result (Begins out.old.items out.new.items) }
 {
-    write_head(alloc, session, number, cut, patches, bodies, out)?;
+    let chain = edges_of(alloc, bodies)?;
+    write_head(alloc, session, number, cut, patches, &chain, out)?;
     write_numbers(alloc, "cut", cut, out)?;
     write_tries(alloc, tries, out)?;
     write_numbers(alloc, "patches", patches, out)?;

@@ -10,7 +10,7 @@ use std::test::Fail;
 use view_outside::MemorySink;
 
 const SQUARE: &[u8] =
-    b"frame 0 1 nodes 1 patches 1 triangles 2\ncut 0\ntries\npatches 0\n0 0 0 4 0 0 4 4 0\n0 0 0 4 4 0 0 4 0\n";
+    b"frame 0 1 nodes 1 patches 1 triangles 2 open 4\ncut 0\ntries\npatches 0\n0 0 0 4 0 0 4 4 0\n0 0 0 4 4 0 0 4 0\n";
 
 #[test]
 #[tactic(auto, unfolding(file_model::specs::Rules::is_body, file_model::specs::Lists::triangle_of, file_model::specs::Lists::point_at_place, grid_vertex::specs::Triangles::is_flat_triangle))]

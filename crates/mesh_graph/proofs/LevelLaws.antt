@@ -67,13 +67,6 @@ among_from test (g ∷ gs) start zero p f number there holds =
     rw (same, holds, p_is) (contains-here start (patches_from (start + 1) test gs))
 among_from test (g ∷ gs) start (suc k) p f number there holds = among-by test g start p (patches_from (start + 1) test gs) (test g) (among_from test gs (start + 1) k p f (omega (arith, number)) there holds)
 
--- no patch: level 0
-pub over_none : (fields : List PatchField) (levels : List (Option ℕ)) → IsLevelOver fields levels [] 0
-over_none fields levels = record {
-  each = λ p (k, k_in, is). absurd (omega arith);
-  reached = inl refl;
-}
-
 -- one patch more
 pub over_more : (fields : List PatchField) (levels : List (Option ℕ)) (patches : List ℕ) (level p below new : ℕ) → IsLevelOver fields levels patches level → HasTailLevel fields levels p below → new ≡ max level (below + 1) → IsLevelOver fields levels (patches ++ p ∷ []) new
 over_more fields levels patches level p below new over has is =

@@ -22,12 +22,3 @@ nested_is test fields nodes lists f d arcs tail head =
 -- the patches before a number keep the rule
 abbrev pub AreNestedBelow : (Node → Node → Bool) → List Node → List PatchField → ℕ → Type 0
 AreNestedBelow test nodes fields n = (p : ℕ) (f : PatchField) → p < n → slice_get fields p ≡ Some f → IsTrue (nested_by test fields (slice_get nodes f.tail) (slice_get nodes f.head) f.head)
-
-pub nested_more : (test : Node → Node → Bool) (nodes : List Node) (fields : List PatchField) (n : ℕ) (f : PatchField) → slice_get fields n ≡ Some f → IsTrue (nested_by test fields (slice_get nodes f.tail) (slice_get nodes f.head) f.head) → AreNestedBelow test nodes fields n → AreNestedBelow test nodes fields (n + 1)
-nested_more test nodes fields n f there holds below p g p_in g_there =
-    ⊎_elim
-    (λ (e : p ≡ n).
-    let same : f ≡ g = let s : Some f ≡ Some g = sym there ∙ ap (slice_get fields) (sym e) ∙ g_there in cc in
-    subst (λ (h : PatchField). IsTrue (nested_by test fields (slice_get nodes h.tail) (slice_get nodes h.head) h.head)) same holds)
-    (λ ne. below p g (omega (arith, ne)) g_there)
-    (cases_eq p n)

@@ -54,9 +54,6 @@ numbers_step : (test : ℕ → Bool) (n v : ℕ) → v < n → numbers_from v (n
 unfolding numbers_from
 numbers_step test n v v_in = ap (λ k. numbers_from v k test) (let e : n - v ≡ suc (n - (v + 1)) = omega arith in e)
 
-pub found_first : (test : ℕ → Bool) (n : ℕ) → HasFound test n 0 None
-found_first test n = ap (λ k. numbers_from 0 k test) (let e : n - 0 ≡ n = omega arith in e)
-
 pub found_none : (test : ℕ → Bool) (n v : ℕ) (found : Option ℕ) → v < n → test v ≡ false → HasFound test n v found → HasFound test n (v + 1) found
 found_none test n v found v_in off h =
     let step : numbers_from v (n - v) test ≡ numbers_from (v + 1) (n - (v + 1)) test = numbers_step test n v v_in ∙ ap (λ t. if t then v ∷ numbers_from (v + 1) (n - (v + 1)) test else numbers_from (v + 1) (n - (v + 1)) test) off in

@@ -17,9 +17,6 @@ each_passes test [] i x all there = absurd cc
 each_passes test (y ∷ ys) zero x all there = let same : y ≡ x = cc in subst (λ z. test z ≡ true) same (and_parts (test y) (list_all test ys) all).0
 each_passes test (y ∷ ys) (suc i) x all there = each_passes test ys i x (and_parts (test y) (list_all test ys) all).1 there
 
-pub at_most : (low high n : ℕ) → IsTrue (is_between low high n) → n ≤ high
-at_most low high n h = leb-true n high (and_parts (nat_le low n) (nat_le n high) h).1
-
 ends_are : (nodes : ℕ) (f : PatchField) → is_field nodes f ≡ true → (f.tail < nodes) × (f.head < nodes)
 ends_are nodes f h =
     let ends = and_parts (nat_lt f.tail nodes) (nat_lt f.head nodes) (and_parts (has_ends nodes f) (has_counts f) h).0 in

@@ -41,9 +41,6 @@ pub record AreSpansOf (side : Side) (fields : List PatchField) (patches : List �
   pub are : AreSpans patches spans
   pub each : (v : ℕ) (span : Span) → slice_get spans v ≡ Some span → list_in patches span ≡ patches_at side fields v
 
-pub spans_none : (side : Side) (fields : List PatchField) (patches : List ℕ) → AreSpansOf side fields patches []
-spans_none side fields patches = record { are = λ v span h. absurd cc; each = λ v span h. absurd cc }
-
 -- one node more
 pub spans_more : (side : Side) (fields : List PatchField) (patches more : List ℕ) (spans : List Span) (span : Span) → AreSpansOf side fields patches spans → more ≡ patches ++ patches_at side fields (length spans) → span.start ≡ length patches → span.end ≡ length more → AreSpansOf side fields more (spans ++ span ∷ [])
 spans_more side fields patches more spans span are is start end =

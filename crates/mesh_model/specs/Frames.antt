@@ -1,5 +1,6 @@
 -- Cuts of the graph, and their frames.
 use Rattle.std.specs.Prelude.{◌≡◌, ℕ, ◌==◌, Bool, false, not, ◌&&◌, List, [], ◌∷◌, ◌++◌, IsTrue, slice_get, Some, if◌then◌else◌}
+use Rattle.std.specs.List.{sum_by}
 use Rattle.grid_vertex.specs.declared.triangles.Triangle.{Triangle}
 use Rattle.file_model.specs.declared.fields.PatchField.{PatchField}
 use Rattle.file_model.specs.Lists.{BodyLists, triangles_of}
@@ -10,6 +11,10 @@ unfoldable pub triangles_where : (PatchField → Bool) → List PatchField → L
 triangles_where test [] bodies = []
 triangles_where test (f ∷ fs) [] = []
 triangles_where test (f ∷ fs) (b ∷ bs) = if test f then triangles_of b ++ triangles_where test fs bs else triangles_where test fs bs
+
+-- how many triangles the patches have together
+abbrev pub triangles_in_all : List PatchField → ℕ
+triangles_in_all fields = sum_by (λ (f : PatchField). f.triangles) fields
 
 -- the patch leads out of the set of nodes
 abbrev pub leads_out : (ℕ → Bool) → PatchField → Bool

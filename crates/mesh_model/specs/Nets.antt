@@ -1,5 +1,5 @@
 -- Nets: how often an edge stands in triangles, less how often it stands there the other way round.
-use Rattle.std.specs.Prelude.{◌≡◌, ◌≢◌, ◌↔◌, ℕ, ◌+◌, Bool, ◌&&◌, ◌||◌, List, [], ◌∷◌, ℤ, pos, ◌-ℤ◌, int_lt, IsTrue, if◌then◌else◌}
+use Rattle.std.specs.Prelude.{◌≡◌, ◌≢◌, ◌↔◌, ℕ, ◌+◌, Bool, ◌&&◌, ◌||◌, List, [], ◌∷◌, length, ℤ, pos, ◌-ℤ◌, int_lt, IsTrue, if◌then◌else◌}
 use Rattle.std.specs.List.{sum_by, Contains}
 use Rattle.std.specs.Ordering.{int_eq}
 use Rattle.grid_vertex.specs.declared.points.Point.{Point}
@@ -52,6 +52,12 @@ pub record AreOpen (triangles : List Triangle) (pairs : List Pair) : Type 0 wher
   pub ascending : Ascend pairs
   pub forward : (p : Pair) → Contains pairs p → IsTrue (is_forward p)
   pub open_edges : (p : Pair) → IsTrue (is_forward p) → Contains pairs p ↔ (net triangles p.a p.b ≢ pos 0)
+
+-- so many pairs are open in the triangles
+pub record HasOpenPairs (triangles : List Triangle) (count : ℕ) : Type 0 where
+  pub pairs : List Pair
+  pub are_open : AreOpen triangles pairs
+  pub number : length pairs ≡ count
 
 -- the net is one and the same at every pair of points
 abbrev pub HaveOneNet : List Triangle → List Triangle → Type 0

@@ -1,3 +1,4 @@
 pub mod Lines
 pub mod FrameText
 pub mod StatusText
+pub mod AcceptedText

@@ -1,7 +1,7 @@
 //! How many triangles a patch file has.
 
 ghost use Rattle.std.specs.Prelude.{◌≡◌};
-ghost use Rattle.dag_check.specs.MeshView.{triangles_in_all};
+ghost use Rattle.mesh_model.specs.Frames.{triangles_in_all};
 
 use patch_file::Index;
 

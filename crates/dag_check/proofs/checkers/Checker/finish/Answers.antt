@@ -4,9 +4,11 @@ use Rattle.std.proofs.lemmas.Option.{slice_get_read}
 use Rattle.std.proofs.lemmas.Result.{err_from_is_err_and}
 use Rattle.mesh_model.specs.Accepted.{IsAccepted, triangles_out_of}
 use Rattle.mesh_model.specs.Meshes.{IsMesh}
-use Rattle.dag_check.specs.Added.{file_with, HasOpenPairs}
+use Rattle.mesh_model.specs.Frames.{triangles_in_all}
+use Rattle.mesh_model.specs.Nets.{HasOpenPairs}
+use Rattle.dag_check.specs.Added.{file_with}
 use Rattle.dag_check.specs.Checkers.{CheckerSeen}
-use Rattle.dag_check.specs.MeshView.{MeshSeen, triangles_in_all}
+use Rattle.dag_check.specs.MeshView.{MeshSeen}
 use Rattle.dag_check.proofs.MeshLaws.{root_below, mesh_is}
 use Rattle.dag_check.proofs.FinishLaws.{Decided, verdict_err, verdict_ok, compared_err, compared_ok, base_pairs, nets_along}
 use Rattle.dag_check.proofs.checkers.Checker.finish.Goals as goal
