@@ -1,0 +1,15 @@
+-- The bodies of the patches before this one were loaded.
+use Rattle.std.proofs.Common.{◌≡◌, ◌≤◌, List, ℕ, map, take}
+use Rattle.std.specs.Prelude.{IfSome}
+use Rattle.std.specs.Arc.{arc_value}
+use Rattle.view_outside.specs.Files.{file_bytes}
+use Rattle.body_loads.specs.Loads.{AreBodiesAt, patches_of}
+use Rattle.body_loads.proofs.loads.load_bodies.Given as goal
+
+abbrev pub invariant-loop-patch : goal.invariant-loop-patch
+invariant-loop-patch g l = record {
+  files : g.S.Store.files l.store ≡ g.S.Store.files l.initial.store;
+  later : g.S.Store.faults l.initial.store ≤ g.S.Store.faults l.store;
+  patches : patches_of (map arc_value l.bodies.items) ≡ take l.patch-index l.patches;
+  told : IfSome (file_bytes (g.S.Store.files l.initial.store) l.file) (λ (bytes : List ℕ). AreBodiesAt l.index bytes (take l.patch-index l.patches) (map arc_value l.bodies.items));
+}
