@@ -1,1 +1,3 @@
 pub mod Wants
+pub mod Views
+pub mod Laws

@@ -3,6 +3,12 @@
 //! `docs/MODEL.md` tells the score.
 #![tactic(auto)]
 
+mod scores;
+mod views;
 mod wants;
 
+pub use views::View;
 pub use wants::Want;
+
+#[cfg(test)]
+mod tests;
