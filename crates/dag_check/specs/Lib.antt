@@ -1,3 +1,5 @@
 pub mod Added
 pub mod Checkers
 pub mod MeshView
+pub mod Refusals
+pub mod Checks

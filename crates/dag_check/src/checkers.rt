@@ -94,6 +94,13 @@ impl Checker {
         self.next
     }
 
+    /// The index of the file that is checked.
+    pub fn index(&self) -> &Index
+        ensures { result.now ≡ self.now.index }
+    {
+        &self.index
+    }
+
     /// The mesh, or the first fault. Condition: all bodies were added.
     pub fn finish(self) -> Result<Mesh, DagFault>
         requires { self.next ≡ length self.index.fields }

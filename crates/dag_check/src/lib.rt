@@ -6,11 +6,15 @@
 mod adding;
 mod borders;
 mod checkers;
+mod checks;
 mod meshes;
+mod refusals;
 
 pub use checkers::Checker;
-pub use mesh_model::DagFault;
+pub use checks::check;
+pub use mesh_model::{DagFault, Refusal};
 pub use meshes::Mesh;
+pub use refusals::CheckRefusal;
 
 #[cfg(test)]
 mod tests;

@@ -1,0 +1,65 @@
+-- What is read behind an index, and what it says of the whole file.
+use Rattle.std.proofs.Common.{◌≡◌, ℕ, List, Option, Some, None, Ok, Err, refl}
+use Rattle.std.specs.Prelude.{IfSome}
+use Rattle.file_model.specs.declared.faults.FileFault.{FileFault}
+use Rattle.file_model.specs.declared.refusals.ReadRefusal.{ReadRefusal}
+use Rattle.file_model.specs.declared.refusals.ReadRefusal.TheVariants as reads
+use Rattle.file_model.specs.Answers.{Refuses}
+use Rattle.file_model.specs.Lists.{BodyLists, IndexLists}
+use Rattle.file_model.specs.Reading.{index_in, end_in, file_in}
+use Rattle.mesh_model.specs.declared.refusals.DagFault.{DagFault}
+use Rattle.mesh_model.specs.declared.refusals.Refusal.TheVariants.{Dag}
+use Rattle.mesh_model.specs.Accepted.{IsMeshFault}
+use Rattle.dag_check.specs.declared.refusals.CheckRefusal.TheVariants.{Refused}
+use Rattle.dag_check.specs.Added.{file_with}
+use Rattle.dag_check.specs.Checkers.{CheckerSeen, Follows}
+use Rattle.dag_check.specs.Checks.{bodies_behind, FollowsAll, IsMeshOf, Checks}
+use Rattle.dag_check.specs.MeshView.{MeshSeen}
+use Rattle.dag_check.specs.Refusals.{check_refusal}
+
+whole : (index : IndexLists) (bodies : List BodyLists) (bytes : List ℕ) → index_in bytes ≡ Ok index → bodies_behind index bytes ≡ Ok bodies → end_in index bytes ≡ Ok tt → file_in bytes ≡ Ok (file_with index bodies)
+unfolding file_in
+whole index bodies bytes is read ends = rw (is, read, ends) refl
+
+faulty_bodies : (index : IndexLists) (fault : FileFault) (bytes : List ℕ) → index_in bytes ≡ Ok index → bodies_behind index bytes ≡ Err fault → file_in bytes ≡ Err fault
+unfolding file_in
+faulty_bodies index fault bytes is read = rw (is, read) refl
+
+faulty_end : (index : IndexLists) (bodies : List BodyLists) (fault : FileFault) (bytes : List ℕ) → index_in bytes ≡ Ok index → bodies_behind index bytes ≡ Ok bodies → end_in index bytes ≡ Err fault → file_in bytes ≡ Err fault
+unfolding file_in
+faulty_end index bodies fault bytes is read ends = rw (is, read, ends) refl
+
+bodies_refused : (index : IndexLists) (refusal : ReadRefusal) (bytes : List ℕ) → index_in bytes ≡ Ok index → Refuses refusal (bodies_behind index bytes) → Checks bytes (Err (check_refusal refusal))
+bodies_refused index (reads.File fault) bytes is read = faulty_bodies index fault bytes is read
+bodies_refused index reads.ReadFault bytes is read = tt
+bodies_refused index reads.Memory bytes is read = tt
+
+-- a fault of the bodies is the file's
+pub check-bodies_refused : (told : Option (List ℕ)) (index : IndexLists) (refusal : ReadRefusal) → IfSome told (λ bytes. index_in bytes ≡ Ok index) → IfSome told (λ bytes. Refuses refusal (bodies_behind index bytes)) → IfSome told (λ bytes. Checks bytes (Err (check_refusal refusal)))
+check-bodies_refused None index refusal is read = tt
+check-bodies_refused (Some bytes) index refusal is read = bodies_refused index refusal bytes is read
+
+end_refused : (index : IndexLists) (bodies : List BodyLists) (refusal : ReadRefusal) (bytes : List ℕ) → index_in bytes ≡ Ok index → bodies_behind index bytes ≡ Ok bodies → Refuses refusal (end_in index bytes) → Checks bytes (Err (check_refusal refusal))
+end_refused index bodies (reads.File fault) bytes is read ends = faulty_end index bodies fault bytes is read ends
+end_refused index bodies reads.ReadFault bytes is read ends = tt
+end_refused index bodies reads.Memory bytes is read ends = tt
+
+-- a fault behind the bodies is the file's
+pub check-end_refused : (told : Option (List ℕ)) (index : IndexLists) (checker : CheckerSeen) (refusal : ReadRefusal) → IfSome told (λ bytes. index_in bytes ≡ Ok index)
+    → IfSome told (λ bytes. FollowsAll (Ok checker) (bodies_behind index bytes)) → IfSome told (λ bytes. Refuses refusal (end_in index bytes)) → IfSome told (λ bytes. Checks bytes (Err (check_refusal refusal)))
+check-end_refused None index checker refusal is read ends = tt
+check-end_refused (Some bytes) index checker refusal is read ends = end_refused index read.0 refusal bytes is read.1 ends
+
+-- a fault of the mesh is that of the file that was read
+pub check-mesh_refused : (told : Option (List ℕ)) (index : IndexLists) (checker : CheckerSeen) (fault : DagFault) → IfSome told (λ bytes. index_in bytes ≡ Ok index)
+    → IfSome told (λ bytes. FollowsAll (Ok checker) (bodies_behind index bytes)) → IfSome told (λ bytes. end_in index bytes ≡ Ok tt)
+    → ((bodies : List BodyLists) → Follows checker bodies → IsMeshFault (file_with index bodies) fault) → IfSome told (λ bytes. Checks bytes (Err (Refused (Dag fault))))
+check-mesh_refused None index checker fault is read ends verdict = tt
+check-mesh_refused (Some bytes) index checker fault is read ends verdict = (file_with index read.0, whole index read.0 bytes is read.1 ends, verdict read.0 read.2)
+
+-- the mesh is that of the file that was read
+pub check-accepted : (told : Option (List ℕ)) (index : IndexLists) (checker : CheckerSeen) (mesh : MeshSeen) → IfSome told (λ bytes. index_in bytes ≡ Ok index)
+    → IfSome told (λ bytes. FollowsAll (Ok checker) (bodies_behind index bytes)) → IfSome told (λ bytes. end_in index bytes ≡ Ok tt)
+    → ((bodies : List BodyLists) → Follows checker bodies → IsMeshOf (file_with index bodies) mesh) → IfSome told (λ bytes. Checks bytes (Ok mesh))
+check-accepted None index checker mesh is read ends verdict = tt
+check-accepted (Some bytes) index checker mesh is read ends verdict = (file_with index read.0, whole index read.0 bytes is read.1 ends, verdict read.0 read.2)

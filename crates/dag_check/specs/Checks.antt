@@ -1,0 +1,39 @@
+-- What a check of a file's bytes answers.
+use Rattle.std.specs.Prelude.{◌≡◌, ℕ, List, Result, Ok, Err}
+use Rattle.file_model.specs.declared.faults.FileFault.{FileFault}
+use Rattle.file_model.specs.declared.refusals.ReadRefusal.{ReadRefusal}
+use Rattle.file_model.specs.Answers.{Refuses}
+use Rattle.file_model.specs.Lists.{BodyLists, IndexLists, FileLists, bodies_offset}
+use Rattle.file_model.specs.Reading.{bodies_in, file_in}
+use Rattle.mesh_model.specs.declared.refusals.Refusal.TheVariants.{File, Dag}
+use Rattle.mesh_model.specs.Accepted.{IsAccepted, IsMeshFault, triangles_out_of}
+use Rattle.mesh_model.specs.Meshes.{IsMesh}
+use Rattle.mesh_model.specs.Nets.{HasOpenPairs}
+use Rattle.dag_check.specs.declared.refusals.CheckRefusal.{CheckRefusal}
+use Rattle.dag_check.specs.declared.refusals.CheckRefusal.TheVariants.{Refused, ReadFault, Memory}
+use Rattle.dag_check.specs.Checkers.{CheckerSeen, Follows}
+use Rattle.dag_check.specs.MeshView.{MeshSeen}
+
+-- all bodies of a file with this index
+abbrev pub bodies_behind : IndexLists → List ℕ → Result (List BodyLists) FileFault
+bodies_behind index bytes = bodies_in index.version 0 (bodies_offset index) index.fields bytes
+
+-- a check to which the bodies were added follows all those that are read, and else the refusal is theirs
+abbrev pub FollowsAll : Result CheckerSeen ReadRefusal → Result (List BodyLists) FileFault → Type 0
+FollowsAll (Ok checker) read = (bodies : List BodyLists) × (read ≡ Ok bodies) × Follows checker bodies
+FollowsAll (Err refusal) read = Refuses refusal read
+
+-- the mesh is the accepted file's
+pub record IsMeshOf (file : FileLists) (mesh : MeshSeen) : Type 0 where
+  pub index : file.index ≡ mesh.lists.index
+  pub accepted : IsAccepted file mesh.lists.root
+  pub facts : IsMesh mesh.lists
+  pub base : HasOpenPairs (triangles_out_of file mesh.lists.root) mesh.base_open
+
+-- what a check answers for a file of these bytes
+abbrev pub Checks : List ℕ → Result MeshSeen CheckRefusal → Type 0
+Checks bytes (Ok mesh) = (file : FileLists) × (file_in bytes ≡ Ok file) × IsMeshOf file mesh
+Checks bytes (Err (Refused (File fault))) = file_in bytes ≡ Err fault
+Checks bytes (Err (Refused (Dag fault))) = (file : FileLists) × (file_in bytes ≡ Ok file) × IsMeshFault file fault
+Checks bytes (Err ReadFault) = Unit {0}
+Checks bytes (Err Memory) = Unit {0}
