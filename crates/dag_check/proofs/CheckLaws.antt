@@ -13,7 +13,7 @@ use Rattle.mesh_model.specs.Accepted.{IsMeshFault}
 use Rattle.dag_check.specs.declared.refusals.CheckRefusal.TheVariants.{Refused}
 use Rattle.dag_check.specs.Added.{file_with}
 use Rattle.dag_check.specs.Checkers.{CheckerSeen, Follows}
-use Rattle.dag_check.specs.Checks.{bodies_behind, FollowsAll, IsMeshOf, Checks}
+use Rattle.dag_check.specs.Checks.{bodies_behind, FollowsBodies, FollowsFile, IsMeshOf, Checks}
 use Rattle.dag_check.specs.MeshView.{MeshSeen}
 use Rattle.dag_check.specs.Refusals.{check_refusal}
 
@@ -29,37 +29,52 @@ faulty_end : (index : IndexLists) (bodies : List BodyLists) (fault : FileFault) 
 unfolding file_in
 faulty_end index bodies fault bytes is read ends = rw (is, read, ends) refl
 
-bodies_refused : (index : IndexLists) (refusal : ReadRefusal) (bytes : List ℕ) → index_in bytes ≡ Ok index → Refuses refusal (bodies_behind index bytes) → Checks bytes (Err (check_refusal refusal))
+bodies_refused : (index : IndexLists) (refusal : ReadRefusal) (bytes : List ℕ) → index_in bytes ≡ Ok index → Refuses refusal (bodies_behind index bytes) → Refuses refusal (file_in bytes)
 bodies_refused index (reads.File fault) bytes is read = faulty_bodies index fault bytes is read
 bodies_refused index reads.ReadFault bytes is read = tt
 bodies_refused index reads.Memory bytes is read = tt
 
--- a fault of the bodies is the file's
-pub check-bodies_refused : (told : Option (List ℕ)) (index : IndexLists) (refusal : ReadRefusal) → IfSome told (λ bytes. index_in bytes ≡ Ok index) → IfSome told (λ bytes. Refuses refusal (bodies_behind index bytes)) → IfSome told (λ bytes. Checks bytes (Err (check_refusal refusal)))
-check-bodies_refused None index refusal is read = tt
-check-bodies_refused (Some bytes) index refusal is read = bodies_refused index refusal bytes is read
+-- what refuses the bodies refuses the file
+pub file-bodies_refused : (told : Option (List ℕ)) (index : IndexLists) (refusal : ReadRefusal) → IfSome told (λ bytes. index_in bytes ≡ Ok index)
+    → IfSome told (λ bytes. Refuses refusal (bodies_behind index bytes)) → IfSome told (λ bytes. Refuses refusal (file_in bytes))
+file-bodies_refused None index refusal is read = tt
+file-bodies_refused (Some bytes) index refusal is read = bodies_refused index refusal bytes is read
 
-end_refused : (index : IndexLists) (bodies : List BodyLists) (refusal : ReadRefusal) (bytes : List ℕ) → index_in bytes ≡ Ok index → bodies_behind index bytes ≡ Ok bodies → Refuses refusal (end_in index bytes) → Checks bytes (Err (check_refusal refusal))
+end_refused : (index : IndexLists) (bodies : List BodyLists) (refusal : ReadRefusal) (bytes : List ℕ) → index_in bytes ≡ Ok index → bodies_behind index bytes ≡ Ok bodies → Refuses refusal (end_in index bytes) → Refuses refusal (file_in bytes)
 end_refused index bodies (reads.File fault) bytes is read ends = faulty_end index bodies fault bytes is read ends
 end_refused index bodies reads.ReadFault bytes is read ends = tt
 end_refused index bodies reads.Memory bytes is read ends = tt
 
--- a fault behind the bodies is the file's
-pub check-end_refused : (told : Option (List ℕ)) (index : IndexLists) (checker : CheckerSeen) (refusal : ReadRefusal) → IfSome told (λ bytes. index_in bytes ≡ Ok index)
-    → IfSome told (λ bytes. FollowsAll (Ok checker) (bodies_behind index bytes)) → IfSome told (λ bytes. Refuses refusal (end_in index bytes)) → IfSome told (λ bytes. Checks bytes (Err (check_refusal refusal)))
-check-end_refused None index checker refusal is read ends = tt
-check-end_refused (Some bytes) index checker refusal is read ends = end_refused index read.0 refusal bytes is read.1 ends
+-- what refuses the end behind the bodies refuses the file
+pub file-end_refused : (told : Option (List ℕ)) (index : IndexLists) (checker : CheckerSeen) (refusal : ReadRefusal) → IfSome told (λ bytes. index_in bytes ≡ Ok index)
+    → IfSome told (λ bytes. FollowsBodies (Ok checker) (bodies_behind index bytes)) → IfSome told (λ bytes. Refuses refusal (end_in index bytes)) → IfSome told (λ bytes. Refuses refusal (file_in bytes))
+file-end_refused None index checker refusal is read ends = tt
+file-end_refused (Some bytes) index checker refusal is read ends = end_refused index read.0 refusal bytes is read.1 ends
 
--- a fault of the mesh is that of the file that was read
-pub check-mesh_refused : (told : Option (List ℕ)) (index : IndexLists) (checker : CheckerSeen) (fault : DagFault) → IfSome told (λ bytes. index_in bytes ≡ Ok index)
-    → IfSome told (λ bytes. FollowsAll (Ok checker) (bodies_behind index bytes)) → IfSome told (λ bytes. end_in index bytes ≡ Ok tt)
-    → ((bodies : List BodyLists) → Follows checker bodies → IsMeshFault (file_with index bodies) fault) → IfSome told (λ bytes. Checks bytes (Err (Refused (Dag fault))))
-check-mesh_refused None index checker fault is read ends verdict = tt
-check-mesh_refused (Some bytes) index checker fault is read ends verdict = (file_with index read.0, whole index read.0 bytes is read.1 ends, verdict read.0 read.2)
+-- the bodies and the end make the file
+pub file-whole : (told : Option (List ℕ)) (index : IndexLists) (checker : CheckerSeen) → checker.index ≡ index → IfSome told (λ bytes. index_in bytes ≡ Ok index)
+    → IfSome told (λ bytes. FollowsBodies (Ok checker) (bodies_behind index bytes)) → IfSome told (λ bytes. end_in index bytes ≡ Ok tt) → IfSome told (λ bytes. FollowsFile (Ok checker) (file_in bytes))
+file-whole None index checker same is read ends = tt
+file-whole (Some bytes) index checker same is read ends = (read.0, rw same (whole index read.0 bytes is read.1 ends), read.2)
 
--- the mesh is that of the file that was read
-pub check-accepted : (told : Option (List ℕ)) (index : IndexLists) (checker : CheckerSeen) (mesh : MeshSeen) → IfSome told (λ bytes. index_in bytes ≡ Ok index)
-    → IfSome told (λ bytes. FollowsAll (Ok checker) (bodies_behind index bytes)) → IfSome told (λ bytes. end_in index bytes ≡ Ok tt)
-    → ((bodies : List BodyLists) → Follows checker bodies → IsMeshOf (file_with index bodies) mesh) → IfSome told (λ bytes. Checks bytes (Ok mesh))
-check-accepted None index checker mesh is read ends verdict = tt
-check-accepted (Some bytes) index checker mesh is read ends verdict = (file_with index read.0, whole index read.0 bytes is read.1 ends, verdict read.0 read.2)
+refused : (refusal : ReadRefusal) (bytes : List ℕ) → Refuses refusal (file_in bytes) → Checks bytes (Err (check_refusal refusal))
+refused (reads.File fault) bytes read = read
+refused reads.ReadFault bytes read = tt
+refused reads.Memory bytes read = tt
+
+-- what refuses the file ends the check
+pub check-refused : (told : Option (List ℕ)) (refusal : ReadRefusal) → IfSome told (λ bytes. Refuses refusal (file_in bytes)) → IfSome told (λ bytes. Checks bytes (Err (check_refusal refusal)))
+check-refused None refusal read = tt
+check-refused (Some bytes) refusal read = refused refusal bytes read
+
+-- a fault of the mesh ends the check
+pub check-faulty : (told : Option (List ℕ)) (checker : CheckerSeen) (fault : DagFault) → IfSome told (λ bytes. FollowsFile (Ok checker) (file_in bytes))
+    → ((bodies : List BodyLists) → Follows checker bodies → IsMeshFault (file_with checker.index bodies) fault) → IfSome told (λ bytes. Checks bytes (Err (Refused (Dag fault))))
+check-faulty None checker fault read verdict = tt
+check-faulty (Some bytes) checker fault read verdict = (file_with checker.index read.0, read.1, verdict read.0 read.2)
+
+-- the check gives the file's mesh
+pub check-accepted : (told : Option (List ℕ)) (checker : CheckerSeen) (mesh : MeshSeen) → IfSome told (λ bytes. FollowsFile (Ok checker) (file_in bytes))
+    → ((bodies : List BodyLists) → Follows checker bodies → IsMeshOf (file_with checker.index bodies) mesh) → IfSome told (λ bytes. Checks bytes (Ok mesh))
+check-accepted None checker mesh read verdict = tt
+check-accepted (Some bytes) checker mesh read verdict = (file_with checker.index read.0, read.1, verdict read.0 read.2)

@@ -1,6 +1,6 @@
 -- Bodies that are read one after the other, each of which is added to a check.
 use Rattle.std.proofs.Common.{◌≡◌, ℕ, zero, suc, ◌+◌, ◌<◌, ◌≤◌, List, [], ◌∷◌, ◌++◌, length, take, drop, get_or, Option, Some, None, Result, Ok, Err, refl, sym, ap, ◌∙◌, subst, append_assoc, length-append, arith}
-use Rattle.std.proofs.lemmas.List.{drop_more, drop_all, take_all}
+use Rattle.std.proofs.lemmas.List.{drop_more, drop_all}
 use Rattle.std.proofs.lemmas.Option.{slice_get_within, slice_get-get_or, get_or_from_slice_get}
 use Rattle.std.specs.Prelude.{slice_get, IfSome}
 use Rattle.file_model.specs.declared.faults.FileFault.{FileFault}
@@ -12,7 +12,7 @@ use Rattle.file_model.specs.Lists.{BodyLists, IndexLists, body_size, bodies_size
 use Rattle.file_model.specs.Reading.{◌>>=◌, body_of_file, bodies_in, body_offset}
 use Rattle.view_outside.specs.Taken.{taken_after}
 use Rattle.dag_check.specs.Checkers.{CheckerSeen, Follows}
-use Rattle.dag_check.specs.Checks.{bodies_behind, FollowsAll}
+use Rattle.dag_check.specs.Checks.{bodies_behind, FollowsBodies}
 
 -- what is read from a patch on
 abbrev bodies_from : IndexLists → ℕ → List ℕ → Result (List BodyLists) FileFault
@@ -132,7 +132,7 @@ read-refused (Some bytes) index patch checker refusal lt read has =
     stops index patch field.0 checker bytes refusal field.1 (rw field.1 at read) has
 
 -- behind the last body
-pub read-all : (told : Option (List ℕ)) (index : IndexLists) (patch : ℕ) (checker : CheckerSeen) → length index.fields ≤ patch → IfSome told (HasRead index patch checker) → IfSome told (λ bytes. FollowsAll (Ok checker) (bodies_behind index bytes))
+pub read-all : (told : Option (List ℕ)) (index : IndexLists) (patch : ℕ) (checker : CheckerSeen) → length index.fields ≤ patch → IfSome told (HasRead index patch checker) → IfSome told (λ bytes. FollowsBodies (Ok checker) (bodies_behind index bytes))
 read-all None index patch checker past has = tt
 read-all (Some bytes) index patch checker past has =
     (has.front ++ [], has.others ∙ rw (from_end index patch bytes past) refl, has.follows [])
@@ -151,6 +151,3 @@ taken-more index patch before between now size lt sized so_far takes =
     let field = field_at index.fields patch lt in
     let is : size ≡ body_size index.version field.0 = rw field.1 at sized in
     omega (arith, is, so_far, takes, bodies_size-more index.version index.fields patch field.0 field.1)
-
-pub taken-all : (index : IndexLists) (patch before now : ℕ) → length index.fields ≤ patch → HasTaken index patch before now → now ≡ taken_after before (bodies_size index.version index.fields)
-taken-all index patch before now past so_far = rw (take_all patch index.fields past) at so_far

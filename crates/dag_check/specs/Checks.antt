@@ -11,17 +11,23 @@ use Rattle.mesh_model.specs.Meshes.{IsMesh}
 use Rattle.mesh_model.specs.Nets.{HasOpenPairs}
 use Rattle.dag_check.specs.declared.refusals.CheckRefusal.{CheckRefusal}
 use Rattle.dag_check.specs.declared.refusals.CheckRefusal.TheVariants.{Refused, ReadFault, Memory}
+use Rattle.dag_check.specs.Added.{file_with}
 use Rattle.dag_check.specs.Checkers.{CheckerSeen, Follows}
 use Rattle.dag_check.specs.MeshView.{MeshSeen}
 
--- all bodies of a file with this index
+-- the bodies that stand behind an index
 abbrev pub bodies_behind : IndexLists → List ℕ → Result (List BodyLists) FileFault
 bodies_behind index bytes = bodies_in index.version 0 (bodies_offset index) index.fields bytes
 
--- a check to which the bodies were added follows all those that are read, and else the refusal is theirs
-abbrev pub FollowsAll : Result CheckerSeen ReadRefusal → Result (List BodyLists) FileFault → Type 0
-FollowsAll (Ok checker) read = (bodies : List BodyLists) × (read ≡ Ok bodies) × Follows checker bodies
-FollowsAll (Err refusal) read = Refuses refusal read
+-- the checker follows the bodies that are read, and a refusal is theirs
+abbrev pub FollowsBodies : Result CheckerSeen ReadRefusal → Result (List BodyLists) FileFault → Type 0
+FollowsBodies (Ok checker) read = (bodies : List BodyLists) × (read ≡ Ok bodies) × Follows checker bodies
+FollowsBodies (Err refusal) read = Refuses refusal read
+
+-- the checker follows the file that is read, and a refusal is the file's
+abbrev pub FollowsFile : Result CheckerSeen ReadRefusal → Result FileLists FileFault → Type 0
+FollowsFile (Ok checker) read = (bodies : List BodyLists) × (read ≡ Ok (file_with checker.index bodies)) × Follows checker bodies
+FollowsFile (Err refusal) read = Refuses refusal read
 
 -- the mesh is the accepted file's
 pub record IsMeshOf (file : FileLists) (mesh : MeshSeen) : Type 0 where
@@ -37,3 +43,9 @@ Checks bytes (Err (Refused (File fault))) = file_in bytes ≡ Err fault
 Checks bytes (Err (Refused (Dag fault))) = (file : FileLists) × (file_in bytes ≡ Ok file) × IsMeshFault file fault
 Checks bytes (Err ReadFault) = Unit {0}
 Checks bytes (Err Memory) = Unit {0}
+
+-- the refusal is the store's failure only where the fact holds
+abbrev pub ChecksOnlyIf : Type 0 → CheckRefusal → Type 0
+ChecksOnlyIf fact (Refused refusal) = Unit {0}
+ChecksOnlyIf fact ReadFault = fact
+ChecksOnlyIf fact Memory = Unit {0}

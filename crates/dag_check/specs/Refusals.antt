@@ -10,9 +10,3 @@ abbrev pub check_refusal : ReadRefusal → CheckRefusal
 check_refusal (reads.File fault) = Refused (File fault)
 check_refusal reads.ReadFault = ReadFault
 check_refusal reads.Memory = Memory
-
--- the refusal is the store's failure only where the fact holds
-abbrev pub ChecksOnlyIf : Type 0 → CheckRefusal → Type 0
-ChecksOnlyIf fact (Refused refusal) = Unit {0}
-ChecksOnlyIf fact ReadFault = fact
-ChecksOnlyIf fact Memory = Unit {0}

@@ -3,13 +3,12 @@
 ghost use Rattle.std.specs.Prelude.{◌≡◌, ◌≤◌, length, Ok, IfOk, IfErr, IfSome};
 ghost use Rattle.file_model.specs.Answers.{FailsOnlyIf};
 ghost use Rattle.file_model.specs.Lists.{bodies_size};
-ghost use Rattle.file_model.specs.Reading.{index_in};
+ghost use Rattle.file_model.specs.Reading.{index_in, file_in};
 ghost use Rattle.mesh_model.specs.Meshes.{IsMesh};
 ghost use Rattle.view_outside.specs.Faults.{Rose};
 ghost use Rattle.view_outside.specs.Files.{HasFile, file_bytes};
 ghost use Rattle.view_outside.specs.Taken.{taken_after};
-ghost use Rattle.dag_check.specs.Checks.{bodies_behind, FollowsAll, Checks};
-ghost use Rattle.dag_check.specs.Refusals.{ChecksOnlyIf};
+ghost use Rattle.dag_check.specs.Checks.{bodies_behind, FollowsBodies, FollowsFile, Checks, ChecksOnlyIf};
 
 use crate::checkers::Checker;
 use crate::meshes::Mesh;
@@ -27,7 +26,7 @@ fn read_bodies<S: Store>(
     file: u32,
 ) -> Result<Checker, ReadRefusal>
     requires { HasFile (S.files store.old) file }
-    ensures told { IfSome (file_bytes (S.files store.old) file) (λ bytes. FollowsAll result (bodies_behind index bytes)) }
+    ensures told { IfSome (file_bytes (S.files store.old) file) (λ bytes. FollowsBodies result (bodies_behind index bytes)) }
     ensures index { IfOk result (λ checker. checker.index ≡ index) }
     ensures all { IfOk result (λ checker. checker.next ≡ length index.fields) }
 
@@ -44,6 +43,32 @@ fn read_bodies<S: Store>(
         checker = checker.add_body(&body)?;
     }
     Ok(checker)
+}
+
+/// Reads what follows the index: the bodies, and then the file's end.
+fn read_rest<S: Store>(
+    alloc: Global,
+    index: Index,
+    store: &mut S,
+    file: u32,
+) -> Result<Checker, ReadRefusal>
+    requires file { HasFile (S.files store.old) file }
+    requires told { IfSome (file_bytes (S.files store.old) file) (λ bytes. index_in bytes ≡ Ok index) }
+    ensures told { IfSome (file_bytes (S.files store.old) file) (λ bytes. FollowsFile result (file_in bytes)) }
+    ensures index { IfOk result (λ checker. checker.index ≡ index) }
+    ensures all { IfOk result (λ checker. checker.next ≡ length index.fields) }
+
+    ensures kept { S.files store.new ≡ S.files store.old }
+    ensures later { S.faults store.old ≤ S.faults store.new }
+    ensures cause { IfErr result (FailsOnlyIf (Rose (S.faults store.old) (S.faults store.new))) }
+    ensures taken { IfOk result (λ _. S.taken store.new
+        ≡ taken_after (S.taken store.old) (bodies_size index.version index.fields)) }
+{
+    let checker = read_bodies(alloc, index, store, file)?;
+    match read_end(checker.index(), store, file) {
+        Ok(()) => Ok(checker),
+        Err(refusal) => Err(refusal),
+    }
 }
 
 /// Reads what follows the index of a file, each body once, and gives its mesh or why there is none.
@@ -68,7 +93,6 @@ pub fn check<S: Store>(
     ensures taken { IfOk result (λ _. S.taken store.new
         ≡ taken_after (S.taken store.old) (bodies_size index.version index.fields)) }
 {
-    let checker = read_bodies(alloc, index, store, file)?;
-    read_end(checker.index(), store, file)?;
+    let checker = read_rest(alloc, index, store, file)?;
     Ok(checker.finish()?)
 }
