@@ -33,3 +33,11 @@ impl<T: Drop> From<AllocFailed<T>> for LoadRefusal {
         LoadRefusal::Memory
     }
 }
+
+impl From<NoMemory> for LoadRefusal {
+    ghost from_gives = { λ _ refusal. refusal ≡ Memory };
+
+    fn from(_error: NoMemory) -> LoadRefusal {
+        LoadRefusal::Memory
+    }
+}

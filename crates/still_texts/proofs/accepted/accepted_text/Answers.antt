@@ -1,0 +1,15 @@
+use Rattle.std.proofs.Common.{◌≡◌, List, length, sym, subst, rules}
+use Rattle.file_model.specs.declared.fields.Node.{Node}
+use Rattle.file_model.specs.Lists.{IndexLists}
+use Rattle.mesh_model.specs.Frames.{triangles_in_all}
+use Rattle.text_model.specs.AcceptedText.{accepted_line}
+use Rattle.still_texts.proofs.ShownLemmas.{first_piece}
+use Rattle.still_texts.proofs.accepted.accepted_text.Goals as goal
+
+pub returns : goal.returns
+unfolding accepted_line
+returns c = λ file is. record {
+  open_edges = c.base_open.result;
+  counted = rw c.base_open.ensures is.base;
+  is = rw is.index (rw (c.from.ensures, c.node_count.ensures.value, c.index.ensures.value, c.from-2.ensures, c.patch_count.ensures.value, c.index-2.ensures.value, c.triangle_sum.ensures) at (first_piece _ _ _ c.new-text.ensures.items c.in_ok-add_line.ensures.ok));
+}

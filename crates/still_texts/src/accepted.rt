@@ -1,0 +1,31 @@
+//! The line of an accepted file.
+
+ghost use Rattle.std.specs.Prelude.{◌≡◌, IfOk};
+ghost use Rattle.file_model.specs.Lists.{FileLists};
+ghost use Rattle.text_model.specs.AcceptedText.{IsAcceptedText};
+ghost use Rattle.dag_check.specs.Checks.{IsMeshOf};
+
+use dag_check::Mesh;
+use frame_writer::{Part, add_line};
+use grid_vertex::NoMemory;
+use std::alloc::Global;
+
+/// The line that tells of an accepted file: how many nodes, patches, triangles and open edges it has.
+#[tactic(auto, unfolding(text_model::specs::AcceptedText::accepted_line))]
+pub fn accepted_text(alloc: Global, mesh: &Mesh) -> Result<Vec<u8>, NoMemory>
+    ensures { (file : FileLists) → IsMeshOf file mesh.now → IfOk result (λ text. IsAcceptedText file mesh.now.lists.root text.items) }
+{
+    let counts = [
+        Part::Word("nodes"),
+        Part::Number(u64::from(mesh.index().node_count())),
+        Part::Word("patches"),
+        Part::Number(u64::from(mesh.index().patch_count())),
+        Part::Word("triangles"),
+        Part::Number(mesh.triangle_sum()),
+        Part::Word("open"),
+        Part::Number(mesh.base_open()),
+    ];
+    let mut text = Vec::new(alloc);
+    add_line(alloc, "accepted", &counts, &mut text)?;
+    Ok(text)
+}

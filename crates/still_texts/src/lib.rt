@@ -1,0 +1,11 @@
+//! The texts that are made of a file that was checked: its accepted line, and its frames, whose bodies are
+//! read again.
+//!
+//! `docs/TEXTS.md` has the texts.
+#![tactic(auto)]
+
+mod accepted;
+mod bases;
+
+pub use accepted::accepted_text;
+pub use bases::base_text;
