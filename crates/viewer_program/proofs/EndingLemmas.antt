@@ -1,6 +1,5 @@
 -- What a status that stops a command is not.
-use Rattle.std.proofs.Common.{◌≡◌, Option, Some, None}
-use Rattle.std.specs.Prelude.{IfSome}
+use Rattle.std.proofs.Common.{◌≡◌}
 use Rattle.text_model.specs.declared.statuses.Status.{Status}
 use Rattle.text_model.specs.declared.statuses.Status.TheVariants as statuses
 use Rattle.viewer_program.specs.Endings.{IsStop, WriteFaultsOnlyIf}
@@ -25,9 +24,4 @@ stop-not_usage statuses.WriteFault stop is = stop
 stop-not_usage (statuses.Script fault) stop is = stop
 stop-not_usage (statuses.Budget need given) stop is = stop
 stop-not_usage statuses.Memory stop is = cc
-stop-not_usage (statuses.Changed patch fault) stop is = stop
-
--- what holds anyway holds where there is a command
-pub if_some : {A P : Type 0} (o : Option A) → P → IfSome o (λ _. P)
-if_some None p = tt
-if_some (Some x) p = p
+stop-not_usage (statuses.Changed patch fault) stop is = cc

@@ -1,5 +1,2 @@
-pub mod RootLemmas
-pub mod KeptLemmas
-pub mod BaseLemmas
-pub mod AnswerLemmas
 pub mod EndingLemmas
+pub mod IndexLemmas

@@ -1,11 +1,15 @@
 -- What the words ask for.
-use Rattle.std.specs.Prelude.{ℕ, Bool, not, ◌&&◌, ◌==◌, List, [], ◌∷◌, length, Option, Some, None, codes, bytes_eq, if◌then◌else◌}
+use Rattle.std.specs.Prelude.{ℕ, Bool, ◌==◌, List, [], ◌∷◌, length, Option, Some, None, codes, bytes_eq, if◌then◌else◌}
 use Rattle.viewer_program.specs.declared.commands.Command.{Command}
-use Rattle.viewer_program.specs.declared.commands.Command.TheVariants.{Base}
+use Rattle.viewer_program.specs.declared.commands.Command.TheVariants.{Base, Check}
 
--- a command of one file: its word, and the file's name, which isn't empty
+-- the command of a word and a file's name, which isn't empty
 abbrev pub command_with_file_in : List ℕ → List ℕ → Option Command
-command_with_file_in first name = if bytes_eq first (codes "base") && not (length name == 0) then Some Base else None
+command_with_file_in first name =
+    if length name == 0 then None else
+    if bytes_eq first (codes "base") then Some Base else
+    if bytes_eq first (codes "check") then Some Check else
+    None
 
 abbrev pub command_in : List (List ℕ) → Option Command
 command_in (first ∷ name ∷ []) = command_with_file_in first name

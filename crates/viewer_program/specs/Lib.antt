@@ -1,7 +1,5 @@
 pub mod Commands
-pub mod Kept
-pub mod Base
+pub mod Answers
 pub mod Refusals
-pub mod Seen
 pub mod Endings
 pub mod Told

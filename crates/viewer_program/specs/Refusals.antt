@@ -1,12 +1,19 @@
--- Refusals of a reader as statuses.
-use Rattle.file_model.specs.declared.refusals.ReadRefusal.{ReadRefusal}
-use Rattle.file_model.specs.declared.refusals.ReadRefusal.TheVariants as reads
-use Rattle.mesh_model.specs.declared.refusals.Refusal.TheVariants as refusals
+-- Refusals as statuses.
+use Rattle.dag_check.specs.declared.refusals.CheckRefusal.{CheckRefusal}
+use Rattle.dag_check.specs.declared.refusals.CheckRefusal.TheVariants as checks
+use Rattle.body_loads.specs.declared.refusals.LoadRefusal.{LoadRefusal}
+use Rattle.body_loads.specs.declared.refusals.LoadRefusal.TheVariants as loads
 use Rattle.text_model.specs.declared.statuses.Status.{Status}
-use Rattle.text_model.specs.declared.statuses.Status.TheVariants as statuses
+use Rattle.text_model.specs.declared.statuses.Status.TheVariants.{Refused, ReadFault, Memory, Changed}
 
--- a fault of the file refuses it; a failing store and want of memory are statuses of their own
-abbrev pub status_for : ReadRefusal → Status
-status_for (reads.File fault) = statuses.Refused (refusals.File fault)
-status_for reads.ReadFault = statuses.ReadFault
-status_for reads.Memory = statuses.Memory
+-- a fault refuses the file; a failing store and want of memory are statuses of their own
+abbrev pub check_status : CheckRefusal → Status
+check_status (checks.Refused refusal) = Refused refusal
+check_status checks.ReadFault = ReadFault
+check_status checks.Memory = Memory
+
+-- a body that breaks its rule after the check tells that the file changed
+abbrev pub load_status : LoadRefusal → Status
+load_status (loads.Changed patch fault) = Changed patch fault
+load_status loads.ReadFault = ReadFault
+load_status loads.Memory = Memory

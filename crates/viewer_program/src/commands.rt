@@ -5,6 +5,8 @@
 pub enum Command {
     /// The frame of the root's patches.
     Base,
+    /// The line of an accepted file.
+    Check,
 }
 
 mod reading;

@@ -3,16 +3,14 @@
 //! `docs/TEXTS.md` has what is written, and `docs/FORMAT.md` the patch file.
 #![tactic(auto)]
 
-mod base;
 mod commands;
 mod faults;
-mod kept;
 mod refusals;
-mod roots;
 mod run;
 mod statuses;
 #[cfg(test)]
 mod tests;
+mod texts;
 
 use run::run_still;
 use statuses::{status_code, status_text};

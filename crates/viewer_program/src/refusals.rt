@@ -1,19 +1,30 @@
-//! Refusals of a reader as statuses.
+//! Refusals as statuses.
 
 ghost use Rattle.std.specs.Prelude.{◌≡◌};
-ghost use Rattle.viewer_program.specs.Refusals.{status_for};
+ghost use Rattle.viewer_program.specs.Refusals.{check_status, load_status};
 
-use file_model::ReadRefusal;
-use mesh_model::Refusal;
+use body_loads::LoadRefusal;
+use dag_check::CheckRefusal;
 use text_model::Status;
 
-/// The status that tells why a reader gave nothing.
-pub fn status_of(refusal: ReadRefusal) -> Status
-    ensures { result ≡ status_for refusal }
+/// The status that tells why a check gave no mesh.
+pub fn status_of_check(refusal: CheckRefusal) -> Status
+    ensures { result ≡ check_status refusal }
 {
     match refusal {
-        ReadRefusal::File(fault) => Status::Refused(Refusal::File(fault)),
-        ReadRefusal::ReadFault => Status::ReadFault,
-        ReadRefusal::Memory => Status::Memory,
+        CheckRefusal::Refused(refusal) => Status::Refused(refusal),
+        CheckRefusal::ReadFault => Status::ReadFault,
+        CheckRefusal::Memory => Status::Memory,
+    }
+}
+
+/// The status that tells why bodies could not be loaded.
+pub fn status_of_load(refusal: LoadRefusal) -> Status
+    ensures { result ≡ load_status refusal }
+{
+    match refusal {
+        LoadRefusal::Changed(patch, fault) => Status::Changed(patch, fault),
+        LoadRefusal::ReadFault => Status::ReadFault,
+        LoadRefusal::Memory => Status::Memory,
     }
 }

@@ -5,21 +5,27 @@ ghost use Rattle.text_model.specs.declared.statuses.Status.TheVariants.{Usage, R
 ghost use Rattle.view_outside.specs.Faults.{Rose};
 ghost use Rattle.view_outside.specs.Files.{HasName, LacksName};
 ghost use Rattle.viewer_program.specs.Commands.{command_in, name_in};
-ghost use Rattle.viewer_program.specs.Base.{base_answer};
+ghost use Rattle.viewer_program.specs.Answers.{IsAnswer};
 ghost use Rattle.viewer_program.specs.Endings.{Ends, IsQuiet, ReadFaultsOnlyIf, WriteFaultsOnlyIf};
 ghost use Rattle.viewer_program.specs.Told.{named_bytes};
 
-use crate::base::base_text;
 use crate::commands::{Command, command_of, file_name};
+use crate::texts::command_text;
 use frame_writer::write_text;
 use std::alloc::Global;
 use text_model::Status;
 use view_outside::{Sink, Source, Store};
 
-// Writes the text of the base frame of the file of this name.
-fn run_base<S: Store, O: Sink>(alloc: Global, name: &str, store: &mut S, sink: &mut O) -> Status
+// Writes the command's text of the file of this name.
+fn run_command<S: Store, O: Sink>(
+    alloc: Global,
+    command: Command,
+    name: &str,
+    store: &mut S,
+    sink: &mut O,
+) -> Status
     ensures told { IfSome (named_bytes (S.files store.old) name.now) (λ bytes.
-        Ends (base_answer bytes) result (O.written sink.old) (O.written sink.new)) }
+        Ends (IsAnswer command bytes) result (O.written sink.old) (O.written sink.new)) }
     ensures quiet { IsQuiet result (O.written sink.old) (O.written sink.new) }
     ensures read_fault { ReadFaultsOnlyIf (HasName (S.files store.old) name.now → Rose (S.faults store.old) (S.faults store.new)) result }
     ensures missing { LacksName (S.files store.old) name.now → result ≡ ReadFault }
@@ -29,7 +35,7 @@ fn run_base<S: Store, O: Sink>(alloc: Global, name: &str, store: &mut S, sink: &
     let Ok(file) = store.find(name) else {
         return Status::ReadFault;
     };
-    match base_text(alloc, store, file) {
+    match command_text(alloc, command, store, file) {
         Ok(text) => match write_text(&text, sink) {
             Ok(()) => Status::Ok,
             Err(_) => Status::WriteFault,
@@ -51,9 +57,9 @@ pub fn run_still<S: Store, I: Source, O: Sink>(
     // The words are no command exactly where the status is Usage.
     ensures usage { (result ≡ Usage) ↔ IsNone (command_in (map string_bytes words.now)) }
     // What each status means where the store tells the bytes of the named file.
-    ensures told { IfSome (command_in (map string_bytes words.now)) (λ _.
+    ensures told { IfSome (command_in (map string_bytes words.now)) (λ command.
         IfSome (named_bytes (S.files store.old) (name_in (map string_bytes words.now))) (λ bytes.
-        Ends (base_answer bytes) result (O.written sink.old) (O.written sink.new))) }
+        Ends (IsAnswer command bytes) result (O.written sink.old) (O.written sink.new))) }
     // Nothing is written but where the status is Ok or WriteFault.
     ensures quiet { IsQuiet result (O.written sink.old) (O.written sink.new) }
     // A read fault comes only where the store failed, or tells that it has no file of that name,
@@ -66,7 +72,7 @@ pub fn run_still<S: Store, I: Source, O: Sink>(
     ensures write_fault { WriteFaultsOnlyIf (Rose (O.faults sink.old) (O.faults sink.new)) result }
 {
     match command_of(words) {
-        Some(Command::Base) => run_base(alloc, file_name(words), store, sink),
+        Some(command) => run_command(alloc, command, file_name(words), store, sink),
         None => Status::Usage,
     }
 }

@@ -16,14 +16,17 @@ pub fn command_of(words: &[String]) -> Option<Command>
     }
 }
 
-// The command of two words.
+// The command of a word and a file's name.
 fn command_with_file(first: &str, name: &str) -> Option<Command>
     ensures { result ≡ command_with_file_in first.now name.now }
 {
-    if first == "base" && !name.is_empty() {
-        Some(Command::Base)
-    } else {
-        None
+    if name.is_empty() {
+        return None;
+    }
+    match first {
+        "base" => Some(Command::Base),
+        "check" => Some(Command::Check),
+        _ => None,
     }
 }
 

@@ -1,5 +1,5 @@
 use Rattle.viewer_program.proofs.EndingLemmas.{stop-no_write_fault, stop-not_usage}
-use Rattle.viewer_program.proofs.run.run_base.Goals as goal
+use Rattle.viewer_program.proofs.run.run_command.Goals as goal
 
 pub returns-clause-write_fault : goal.returns-clause-write_fault
 returns-clause-write_fault g c = stop-no_write_fault _ c.in-Err.status c.in-Err.ensures.stop

@@ -1,0 +1,82 @@
+//! The text that a command writes of a file, or why there is none.
+
+ghost use Rattle.std.specs.Prelude.{◌≡◌, ◌≤◌, Ok, IfErr, IfSome};
+ghost use Rattle.file_model.specs.Lists.{FileLists};
+ghost use Rattle.file_model.specs.Reading.{file_in};
+ghost use Rattle.view_outside.specs.Faults.{Rose};
+ghost use Rattle.view_outside.specs.Files.{HasFile, file_bytes};
+ghost use Rattle.dag_check.specs.Checks.{Checks, ChecksOnlyIf, IsMeshOf};
+ghost use Rattle.body_loads.specs.Loads.{LoadsOnlyIf};
+ghost use Rattle.still_texts.specs.Texts.{GivesText};
+ghost use Rattle.viewer_program.specs.Answers.{IsTextOf, IsAnswer, text_answer};
+ghost use Rattle.viewer_program.specs.Endings.{Gives, IsStop, ReadFaultsOnlyIf};
+
+use crate::commands::Command;
+use crate::refusals::{status_of_check, status_of_load};
+use body_loads::LoadRefusal;
+use dag_check::{CheckRefusal, Mesh, check};
+use patch_file::read_index;
+use std::alloc::Global;
+use still_texts::{accepted_text, base_text};
+use text_model::Status;
+use view_outside::Store;
+
+// The mesh of the file, each body of which is read once.
+fn mesh_of<S: Store>(alloc: Global, store: &mut S, file: u32) -> Result<Mesh, CheckRefusal>
+    requires { HasFile (S.files store.old) file }
+    ensures told { IfSome (file_bytes (S.files store.old) file) (λ bytes. Checks bytes result) }
+    ensures kept { S.files store.new ≡ S.files store.old }
+    ensures later { S.faults store.old ≤ S.faults store.new }
+    ensures cause { IfErr result (ChecksOnlyIf (Rose (S.faults store.old) (S.faults store.new))) }
+{
+    let index = read_index(alloc, store, file)?;
+    check(alloc, index, store, file)
+}
+
+// The text that the command writes of the mesh. Bodies that it prints are read again.
+fn text_of<S: Store>(
+    alloc: Global,
+    command: Command,
+    mesh: &Mesh,
+    store: &mut S,
+    file: u32,
+) -> Result<Vec<u8>, LoadRefusal>
+    requires { HasFile (S.files store.old) file }
+    ensures told { IfSome (file_bytes (S.files store.old) file) (λ bytes. (lists : FileLists) → file_in bytes ≡ Ok lists
+        → IsMeshOf lists mesh.now → GivesText (IsTextOf command lists mesh.now.lists.root) result) }
+    ensures kept { S.files store.new ≡ S.files store.old }
+    ensures later { S.faults store.old ≤ S.faults store.new }
+    ensures cause { IfErr result (LoadsOnlyIf (Rose (S.faults store.old) (S.faults store.new))) }
+{
+    match command {
+        Command::Base => base_text(alloc, mesh, store, file),
+        Command::Check => match accepted_text(alloc, mesh) {
+            Ok(text) => Ok(text),
+            Err(_) => Err(LoadRefusal::Memory),
+        },
+    }
+}
+
+/// The text that the command writes of the file, or the status that stops it. The file is checked first.
+pub fn command_text<S: Store>(
+    alloc: Global,
+    command: Command,
+    store: &mut S,
+    file: u32,
+) -> Result<Vec<u8>, Status>
+    requires { HasFile (S.files store.old) file }
+    ensures told { IfSome (file_bytes (S.files store.old) file) (λ bytes. Gives (IsAnswer command bytes) (text_answer result)) }
+    ensures stop { IfErr result IsStop }
+    ensures cause { IfErr result (ReadFaultsOnlyIf (Rose (S.faults store.old) (S.faults store.new))) }
+    ensures kept { S.files store.new ≡ S.files store.old }
+    ensures later { S.faults store.old ≤ S.faults store.new }
+{
+    let mesh = match mesh_of(alloc, store, file) {
+        Ok(mesh) => mesh,
+        Err(refusal) => return Err(status_of_check(refusal)),
+    };
+    match text_of(alloc, command, &mesh, store, file) {
+        Ok(text) => Ok(text),
+        Err(refusal) => Err(status_of_load(refusal)),
+    }
+}
