@@ -1,15 +1,15 @@
 //! Adding a body's triangles to the sums of a node.
 
-ghost use Rattle.std.specs.Prelude.{◌≡◌, ◌+◌, ◌*◌, ◌≤◌, List, ◌++◌, length, OnOk, IfOk};
+ghost use Rattle.std.specs.Prelude.{◌≡◌, ◌+◌, ◌*◌, ◌≤◌, List, ◌++◌, length, OnOk};
 ghost use Rattle.grid_vertex.specs.declared.triangles.Triangle.{Triangle};
 ghost use Rattle.file_model.specs.Lists.{triangles_of};
 ghost use Rattle.edge_chain.specs.Chains.{IsNetOf};
-ghost use Rattle.dag_check.specs.Checkers.{AreEmpty};
+ghost use Rattle.dag_check.specs.Added.{AddsToBase};
 
 use edge_chain::EdgeChain;
 use grid_vertex::NoMemory;
+use mesh_model::DagFault;
 use patch_file::Body;
-use std::alloc::Global;
 
 /// Adds the triangles of a body.
 pub fn add_triangles(chain: &mut EdgeChain, body: &Body) -> Result<(), NoMemory>
@@ -23,15 +23,22 @@ pub fn add_triangles(chain: &mut EdgeChain, body: &Body) -> Result<(), NoMemory>
     Ok(())
 }
 
-/// So many sums, each of no triangle.
-pub fn empty_chains(alloc: Global, count: u32) -> Result<Vec<EdgeChain>, NoMemory>
-    ensures as_many { IfOk result (λ chains. length chains.items ≡ count) }
-    ensures empty { IfOk result (λ chains. AreEmpty chains.items) }
+/// Adds the triangles of a body whose patch leads from a node to the sums of the base, where the node
+/// is the root.
+pub fn add_to_base(
+    base: &mut EdgeChain,
+    verdict: Result<u32, DagFault>,
+    tail: u32,
+    body: &Body,
+) -> Result<(), NoMemory>
+    requires { base.old.count ≤ 65535 * 65536 }
+    ensures count { OnOk result (base.new.count ≤ base.old.count + length body.now.lists.corners) }
+    ensures nets { OnOk result (AddsToBase verdict tail body.now.lists base.old base.new) }
 {
-    let mut chains = Vec::new(alloc);
-    for i in 0..count {
-        let chain = EdgeChain::new(alloc);
-        chains.push(chain)?;
+    if let Ok(root) = verdict {
+        if root == tail {
+            return add_triangles(base, body);
+        }
     }
-    Ok(chains)
+    Ok(())
 }

@@ -1,8 +1,10 @@
 //! Checking one body at a time.
 
-use crate::adding::{add_triangles, empty_chains};
-use crate::borders::first_border;
+use crate::adding::add_to_base;
+use crate::gaps::border;
 use crate::meshes::Mesh;
+use crate::sides::Side;
+use crate::tallies::{Tally, empty_tally};
 use edge_chain::EdgeChain;
 use grid_vertex::NoMemory;
 use mesh_graph::MeshGraph;
@@ -11,25 +13,27 @@ use patch_file::{Body, Index};
 use std::alloc::Global;
 use std::marker::Model;
 
-/// A check of a patch file to which the bodies are given one after the other. It keeps sums of edges,
-/// and no body.
+/// A check of a patch file to which the bodies are given one after the other. It keeps no body: only
+/// sums of edges, of each inner node from its first body to its last one, and of the base.
 #[derive(Drop)]
 pub struct Checker {
+    alloc: Global,
     index: Index,
     graph: MeshGraph,
     next: u32,
-    incoming: Vec<EdgeChain>,
-    outgoing: Vec<EdgeChain>,
+    base: EdgeChain,
+    tally: Tally,
 }
 
 impl Model for Checker {
+    ghost use Rattle.dag_check.specs.Tallies.{tally_of};
     ghost use Rattle.dag_check.specs.Checkers.{CheckerSeen, IsChecker};
 
     ghost Value = { CheckerSeen };
 
-    ghost view = { λ c. record { index = c.index; graph = c.graph; next = c.next; incoming = c.incoming.items; outgoing = c.outgoing.items } };
+    ghost view = { λ c. record { index = c.index; graph = c.graph; next = c.next; base = c.base; tally = tally_of c.tally } };
 
-    ghost invariant = { λ c. IsChecker (record { index = c.index; graph = c.graph; next = c.next; incoming = c.incoming.items; outgoing = c.outgoing.items }) };
+    ghost invariant = { λ c. IsChecker (record { index = c.index; graph = c.graph; next = c.next; base = c.base; tally = tally_of c.tally }) };
 }
 
 impl Checker {
@@ -39,6 +43,7 @@ impl Checker {
     ghost use Rattle.mesh_model.specs.Meshes.{IsMesh};
     ghost use Rattle.mesh_model.specs.Nets.{HasOpenPairs};
     ghost use Rattle.dag_check.specs.Added.{file_with};
+    ghost use Rattle.dag_check.specs.Open.{open_nodes, KeepsPairs};
     ghost use Rattle.dag_check.specs.Checkers.{CheckerSeen, Follows};
 
     /// A check to which no body was added.
@@ -47,16 +52,16 @@ impl Checker {
         ensures next { IfOk result (λ checker. checker.next ≡ 0) }
         ensures follows { IfOk result (λ checker. (bodies : List BodyLists) → Follows checker bodies) }
     {
-        let nodes = index.node_count();
+        let _nodes = index.node_count();
         let graph = MeshGraph::of(alloc, index.nodes(), index.fields())?;
-        let incoming = empty_chains(alloc, nodes)?;
-        let outgoing = empty_chains(alloc, nodes)?;
+        let tally = empty_tally(alloc, &index, &graph)?;
         Ok(Checker {
+            alloc,
             index,
             graph,
             next: 0,
-            incoming,
-            outgoing,
+            base: EdgeChain::new(alloc),
+            tally,
         })
     }
 
@@ -68,22 +73,25 @@ impl Checker {
         ensures follows { IfOk result (λ checker. (bodies : List BodyLists) → Follows self bodies → slice_get bodies self.next ≡ Some body.now.lists → Follows checker bodies) }
     {
         let Checker {
+            alloc,
             index,
             graph,
             next,
-            mut incoming,
-            mut outgoing,
+            mut base,
+            mut tally,
         } = self;
         let field = index.patch(next);
         let _patch = body.patch();
-        add_triangles(&mut incoming[field.head as usize], body)?;
-        add_triangles(&mut outgoing[field.tail as usize], body)?;
+        add_to_base(&mut base, graph.verdict(), field.tail, body)?;
+        tally.take(alloc, Side::Incoming, field.head, body)?;
+        tally.take(alloc, Side::Outgoing, field.tail, body)?;
         Ok(Checker {
+            alloc,
             index,
             graph,
             next: next + 1,
-            incoming,
-            outgoing,
+            base,
+            tally,
         })
     }
 
@@ -101,7 +109,22 @@ impl Checker {
         &self.index
     }
 
-    /// The mesh, or the first fault. Condition: all bodies were added.
+    /// The number of open nodes: inner ones of whose patches some but not all bodies were added.
+    pub fn open_nodes(&self) -> u32
+        ensures { result ≡ open_nodes self.now.index.fields self.now.next (length self.now.index.nodes) }
+    {
+        self.tally.open_nodes
+    }
+
+    /// How many pairs of points the checker keeps: for each open node those whose edges don't cancel in
+    /// the added bodies of the patches that lead to it, and of those that lead from it.
+    pub fn kept_pairs(&self) -> u64
+        ensures { (bodies : List BodyLists) → Follows self.now bodies → KeepsPairs self.now.index self.now.next bodies result }
+    {
+        self.tally.kept_pairs
+    }
+
+    /// The mesh, or the first fault. It takes no memory. Condition: all bodies were added.
     pub fn finish(self) -> Result<Mesh, DagFault>
         requires { self.next ≡ length self.index.fields }
         ensures verdict { (bodies : List BodyLists) → Follows self bodies → MatchResult result (λ mesh. IsAccepted (file_with self.index bodies) mesh.lists.root) (IsMeshFault (file_with self.index bodies)) }
@@ -110,15 +133,15 @@ impl Checker {
         ensures base { (bodies : List BodyLists) → Follows self bodies → IfOk result (λ mesh. HasOpenPairs (triangles_out_of (file_with self.index bodies) mesh.lists.root) mesh.base_open) }
     {
         let Checker {
+            alloc: _,
             index,
             graph,
             next: _,
-            incoming,
-            outgoing,
+            base,
+            tally,
         } = self;
         let root = graph.verdict()?;
-        first_border(&graph, &incoming, &outgoing)?;
-        let base_open = outgoing[root as usize].open_edges();
-        Ok(Mesh::with(index, graph, root, base_open))
+        border(tally.gap)?;
+        Ok(Mesh::with(index, graph, root, base.open_edges()))
     }
 }

@@ -4,11 +4,15 @@
 #![tactic(auto)]
 
 mod adding;
-mod borders;
 mod checkers;
 mod checks;
+mod gaps;
+mod inner;
 mod meshes;
 mod refusals;
+mod sides;
+mod tallies;
+mod tracks;
 
 pub use checkers::Checker;
 pub use checks::check;

@@ -5,11 +5,13 @@ ghost use Rattle.view_outside.specs.Files.{HasFile};
 
 use super::*;
 use file_model::ReadRefusal;
-use grid_vertex::Point;
+use grid_vertex::{NoMemory, Point};
 use patch_file::{read_body, read_index};
 use std::alloc::{AllocError, Global};
 use std::test::Fail;
 use view_outside::{MemoryStore, NamedFile, Store};
+
+mod strip;
 
 /// A square over a fan of four triangles: three nodes and two patches.
 fn sample() -> [u8; 244] {

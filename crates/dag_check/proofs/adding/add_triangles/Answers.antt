@@ -3,7 +3,8 @@ use Rattle.std.proofs.Common.{◌∙◌, sym, ap, arith, List, [], ◌∷◌, �
 use Rattle.std.proofs.lemmas.List.{take_all}
 use Rattle.grid_vertex.specs.declared.triangles.Triangle.{Triangle}
 use Rattle.file_model.specs.Lists.{triangles_of}
-use Rattle.dag_check.proofs.AddedLaws.{length-triangles, take_one_more, along}
+use Rattle.dag_check.proofs.AddedLaws.{length-triangles, along}
+use Rattle.dag_check.proofs.ListLaws.{take_one_more}
 use Rattle.dag_check.proofs.adding.add_triangles.Goals as goal
 
 pub loop-t-preserved : goal.loop-t-preserved

@@ -1,59 +1,68 @@
--- The body's triangles go to the sums of its patch's two ends.
+-- The base and the nodes on the patch's two sides take the body.
 use Rattle.std.proofs.Common.{◌≡◌, ◌∙◌, sym, ap, arith, subst}
 use Rattle.std.specs.Prelude.{slice_get}
-use Rattle.std.proofs.lemmas.Option.{slice_get_read}
+use Rattle.dag_check.specs.declared.sides.Side.TheVariants.{Incoming, Outgoing}
+use Rattle.dag_check.specs.Tracks.{taken_both, one_more}
+use Rattle.dag_check.specs.Tallies.{tally_of, IsTally}
 use Rattle.dag_check.specs.Checkers.{CheckerSeen, Follows}
-use Rattle.dag_check.proofs.CheckerLaws.{Ends, ends_of, few_at, takes_is, takes_follows}
+use Rattle.dag_check.proofs.IndexLaws.{Ends, ends_of}
+use Rattle.dag_check.proofs.BodyLaws.{summed_of, ready_of, low_at_first, low_between, between_is, takes_is, takes_follows}
 use Rattle.dag_check.proofs.checkers.Checker.add_body.Goals as goal
 
-pub index_mut-requires : goal.index_mut-requires
-index_mut-requires c =
+pub take-requires-clause-node : goal.take-requires-clause-node
+take-requires-clause-node c =
     let ends : Ends c.self.inside.index c.patch-field.result = ends_of c.self.inside.index c.self.inside.next c.patch-field.result c.self.invariant.rules c.patch-field.ensures in
-    omega (arith, ends.head, c.self.invariant.as_many_in)
+    omega (arith, ends.head, c.self.invariant.tally.as_many)
 
-pub index_mut-requires-2 : goal.index_mut-requires-2
-index_mut-requires-2 c =
-    let ends : Ends c.self.inside.index c.patch-field.result = ends_of c.self.inside.index c.self.inside.next c.patch-field.result c.self.invariant.rules c.patch-field.ensures in
-    omega (arith, ends.tail, c.self.invariant.as_many_out)
+pub take-requires-clause-sums : goal.take-requires-clause-sums
+take-requires-clause-sums c = summed_of c.self.inside.index (taken_both c.self.inside.next) (tally_of c.self.inside.tally) c.self.invariant.rules (low_at_first _ c.self.invariant) c.self.invariant.tally
 
-pub add_triangles-requires : goal.add_triangles-requires
-add_triangles-requires c =
-    let ends : Ends c.self.inside.index c.patch-field.result = ends_of c.self.inside.index c.self.inside.next c.patch-field.result c.self.invariant.rules c.patch-field.ensures in
-    few_at _ c.patch-field.result.head c.self.inside.incoming.items c.index_mut.result.now c.self.invariant c.self.invariant.few_in
-    (slice_get_read c.self.inside.incoming.items _ c.patch-field.result.head c.index_mut.result.now (sym c.self.invariant.as_many_in) ends.head c.index_mut.ensures.value)
+pub take-requires-clause-left : goal.take-requires-clause-left
+take-requires-clause-left c = ready_of Incoming c.self.inside.index (taken_both c.self.inside.next) c.patch-field.result (tally_of c.self.inside.tally) c.patch-field.ensures c.self.invariant.tally
 
-pub add_triangles-requires-2 : goal.add_triangles-requires-2
-add_triangles-requires-2 c =
+pub take-requires-2-clause-node : goal.take-requires-2-clause-node
+take-requires-2-clause-node c =
     let ends : Ends c.self.inside.index c.patch-field.result = ends_of c.self.inside.index c.self.inside.next c.patch-field.result c.self.invariant.rules c.patch-field.ensures in
-    few_at _ c.patch-field.result.tail c.self.inside.outgoing.items c.index_mut-2.result.now c.self.invariant c.self.invariant.few_out
-    (slice_get_read c.self.inside.outgoing.items _ c.patch-field.result.tail c.index_mut-2.result.now (sym c.self.invariant.as_many_out) ends.tail c.index_mut-2.ensures.value)
+    let seen : CheckerSeen = record { index = c.self.inside.index; graph = c.self.inside.graph; next = c.self.inside.next; base = c.self.inside.base; tally = tally_of c.self.inside.tally } in
+    let between : IsTally c.self.inside.index (one_more Incoming (taken_both c.self.inside.next)) (tally_of c.take.new.self) = between_is seen c.patch-field.result c.args.body.now.lists (tally_of c.take.new.self) c.self.invariant c.patch-field.ensures c.patch-patch.ensures.facts.triangles.few c.in_ok-take.ensures in
+    omega (arith, ends.tail, between.as_many)
+
+pub take-requires-2-clause-sums : goal.take-requires-2-clause-sums
+take-requires-2-clause-sums c =
+    let seen : CheckerSeen = record { index = c.self.inside.index; graph = c.self.inside.graph; next = c.self.inside.next; base = c.self.inside.base; tally = tally_of c.self.inside.tally } in
+    summed_of c.self.inside.index (one_more Incoming (taken_both c.self.inside.next)) (tally_of c.take.new.self) c.self.invariant.rules (low_between seen c.patch-field.result c.self.invariant c.patch-field.ensures)
+    (between_is seen c.patch-field.result c.args.body.now.lists (tally_of c.take.new.self) c.self.invariant c.patch-field.ensures c.patch-patch.ensures.facts.triangles.few c.in_ok-take.ensures)
+
+pub take-requires-2-clause-left : goal.take-requires-2-clause-left
+take-requires-2-clause-left c =
+    let seen : CheckerSeen = record { index = c.self.inside.index; graph = c.self.inside.graph; next = c.self.inside.next; base = c.self.inside.base; tally = tally_of c.self.inside.tally } in
+    ready_of Outgoing c.self.inside.index (one_more Incoming (taken_both c.self.inside.next)) c.patch-field.result (tally_of c.take.new.self) c.patch-field.ensures
+    (between_is seen c.patch-field.result c.args.body.now.lists (tally_of c.take.new.self) c.self.invariant c.patch-field.ensures c.patch-patch.ensures.facts.triangles.few c.in_ok-take.ensures)
 
 pub invariant_of-result : goal.invariant_of-result
 invariant_of-result c =
-    let seen : CheckerSeen = record { index = c.self.inside.index; graph = c.self.inside.graph; next = c.self.inside.next; incoming = c.self.inside.incoming.items; outgoing = c.self.inside.outgoing.items } in
-    let ends : Ends c.self.inside.index c.patch-field.result = ends_of c.self.inside.index c.self.inside.next c.patch-field.result c.self.invariant.rules c.patch-field.ensures in
-    takes_is seen c.patch-field.result c.args.body.now.lists c.index_mut.result.now c.index_mut-2.result.now c.add_triangles.new.chain c.add_triangles-2.new.chain c.self.invariant
+    let seen : CheckerSeen = record { index = c.self.inside.index; graph = c.self.inside.graph; next = c.self.inside.next; base = c.self.inside.base; tally = tally_of c.self.inside.tally } in
+    takes_is seen c.patch-field.result c.args.body.now.lists c.add_to_base.new.base (tally_of c.take.new.self) (tally_of c.take-2.new.self) c.self.invariant
     (record {
       field = c.patch-field.ensures;
-      into_at = slice_get_read c.self.inside.incoming.items _ c.patch-field.result.head c.index_mut.result.now (sym c.self.invariant.as_many_in) ends.head c.index_mut.ensures.value;
-      out_of_at = slice_get_read c.self.inside.outgoing.items _ c.patch-field.result.tail c.index_mut-2.result.now (sym c.self.invariant.as_many_out) ends.tail c.index_mut-2.ensures.value;
-      into_grows = record { count = c.in_ok-add_triangles.ensures.count; nets = c.in_ok-add_triangles.ensures.nets };
-      out_of_grows = record { count = c.in_ok-add_triangles-2.ensures.count; nets = c.in_ok-add_triangles-2.ensures.nets };
       few = c.patch-patch.ensures.facts.triangles.few;
+      base_count = c.in_ok-add_to_base.ensures.count;
+      base_nets = λ root e. c.in_ok-add_to_base.ensures.nets root (c.verdict.ensures ∙ e);
+      incoming = c.in_ok-take.ensures;
+      outgoing = c.in_ok-take-2.ensures;
     })
 
 pub returns-clause-follows : goal.returns-clause-follows
 returns-clause-follows c = λ bodies h at.
-    let seen : CheckerSeen = record { index = c.self.inside.index; graph = c.self.inside.graph; next = c.self.inside.next; incoming = c.self.inside.incoming.items; outgoing = c.self.inside.outgoing.items } in
+    let seen : CheckerSeen = record { index = c.self.inside.index; graph = c.self.inside.graph; next = c.self.inside.next; base = c.self.inside.base; tally = tally_of c.self.inside.tally } in
     let same : seen ≡ c.args.self = c.self.view_is in
-    let ends : Ends c.self.inside.index c.patch-field.result = ends_of c.self.inside.index c.self.inside.next c.patch-field.result c.self.invariant.rules c.patch-field.ensures in
-    takes_follows seen c.patch-field.result c.args.body.now.lists c.index_mut.result.now c.index_mut-2.result.now c.add_triangles.new.chain c.add_triangles-2.new.chain
+    takes_follows seen c.patch-field.result c.args.body.now.lists c.add_to_base.new.base (tally_of c.take.new.self) (tally_of c.take-2.new.self) c.self.invariant
     (record {
       field = c.patch-field.ensures;
-      into_at = slice_get_read c.self.inside.incoming.items _ c.patch-field.result.head c.index_mut.result.now (sym c.self.invariant.as_many_in) ends.head c.index_mut.ensures.value;
-      out_of_at = slice_get_read c.self.inside.outgoing.items _ c.patch-field.result.tail c.index_mut-2.result.now (sym c.self.invariant.as_many_out) ends.tail c.index_mut-2.ensures.value;
-      into_grows = record { count = c.in_ok-add_triangles.ensures.count; nets = c.in_ok-add_triangles.ensures.nets };
-      out_of_grows = record { count = c.in_ok-add_triangles-2.ensures.count; nets = c.in_ok-add_triangles-2.ensures.nets };
       few = c.patch-patch.ensures.facts.triangles.few;
+      base_count = c.in_ok-add_to_base.ensures.count;
+      base_nets = λ root e. c.in_ok-add_to_base.ensures.nets root (c.verdict.ensures ∙ e);
+      incoming = c.in_ok-take.ensures;
+      outgoing = c.in_ok-take-2.ensures;
     })
-    bodies (subst (λ (s : CheckerSeen). Follows s bodies) (sym same) h) (ap (λ (s : CheckerSeen). slice_get bodies s.next) same ∙ at)
+    bodies (ap (λ (s : CheckerSeen). slice_get bodies s.next) same ∙ at) (subst (λ (s : CheckerSeen). Follows s bodies) (sym same) h)

@@ -1,0 +1,39 @@
+-- What stands in a list with one element set, or one more.
+use Rattle.std.specs.Prelude.{◌≡◌, ◌≢◌, ◌⊎◌, ℕ, zero, suc, ◌+◌, ◌<◌, List, [], ◌∷◌, ◌++◌, length, take, slice_get, Some, refl}
+use Rattle.std.proofs.Common.{inl, inr, set, ap, ◌∙◌, arith}
+use Rattle.std.proofs.lemmas.Option.{slice_get_within, get_or_from_slice_get}
+use Rattle.std.proofs.lemmas.List.{take_more}
+
+-- one element more
+pub take_one_more : {X : Type 0} → (xs : List X) (n : ℕ) (x : X) → slice_get xs n ≡ Some x → take (n + 1) xs ≡ take n xs ++ x ∷ []
+take_one_more xs n x e =
+    let within = slice_get_within xs n x e in
+    take_more xs n x within ∙ ap (λ (y : _). take n xs ++ y ∷ []) (get_or_from_slice_get xs n x x e)
+
+-- what stands in a list with one element set
+pub set_read : {X : Type 0} → (xs : List X) (i v : ℕ) (x y : X) → slice_get (set xs i y) v ≡ Some x → ((v ≡ i) × (x ≡ y)) ⊎ ((v ≢ i) × (slice_get xs v ≡ Some x))
+set_read [] i v x y e = absurd cc
+set_read (z ∷ zs) zero zero x y e = inl (refl, cc)
+set_read (z ∷ zs) zero (suc v) x y e = inr (omega arith, e)
+set_read (z ∷ zs) (suc i) zero x y e = inr (omega arith, e)
+set_read (z ∷ zs) (suc i) (suc v) x y e =
+    elim (set_read zs i v x y e) [ inl h ↦ inl (ap (λ n. suc n) h.0, h.1) | inr h ↦ inr (λ same. h.0 (omega arith), h.1) ]
+
+-- what stands in a list with one element more
+pub push_read : {X : Type 0} → (xs : List X) (v : ℕ) (x y : X) → slice_get (xs ++ y ∷ []) v ≡ Some x → (slice_get xs v ≡ Some x) ⊎ (x ≡ y)
+push_read [] zero x y e = inr cc
+push_read [] (suc v) x y e = absurd cc
+push_read (z ∷ zs) zero x y e = inl e
+push_read (z ∷ zs) (suc v) x y e = push_read zs v x y e
+
+pub slice_get-set_same : {X : Type 0} → (xs : List X) (i : ℕ) (y : X) → i < length xs → slice_get (set xs i y) i ≡ Some y
+slice_get-set_same [] i y low = absurd (omega arith)
+slice_get-set_same (z ∷ zs) zero y low = refl
+slice_get-set_same (z ∷ zs) (suc i) y low = slice_get-set_same zs i y (omega arith)
+
+pub slice_get-set_other : {X : Type 0} → (xs : List X) (i v : ℕ) (y : X) → v ≢ i → slice_get (set xs i y) v ≡ slice_get xs v
+slice_get-set_other [] i v y apart = refl
+slice_get-set_other (z ∷ zs) zero zero y apart = absurd (apart refl)
+slice_get-set_other (z ∷ zs) zero (suc v) y apart = refl
+slice_get-set_other (z ∷ zs) (suc i) zero y apart = refl
+slice_get-set_other (z ∷ zs) (suc i) (suc v) y apart = slice_get-set_other zs i v y (λ e. apart (ap (λ n. suc n) e))
