@@ -1,0 +1,16 @@
+mod AmongLaws
+mod AskLaws
+mod CandidateLaws
+mod CourseLaws
+mod DegreeLaws
+mod FrontLaws
+mod JoinLaws
+mod ListedLaws
+mod ListingLaws
+mod OrderLaws
+mod PatchLaws
+mod ReadyLaws
+mod ReleaseLaws
+mod RoundLaws
+mod RuleLaws
+mod TellLaws

@@ -1,0 +1,111 @@
+-- The answer to a try, and a patch that was given back.
+use Rattle.std.proofs.Common.{◌≡◌, ℕ, ◌+◌, ◌%◌, ◌≤◌, Bool, true, false, List, [], ◌∷◌, ◌++◌, length, take, drop, get_or, Option, Some, None, refl, sym, ap, subst, ◌∙◌, arith}
+use Rattle.std.proofs.lemmas.Bool.{cond-true, cond-false, eq-eqb, ne_eqb}
+use Rattle.file_model.specs.declared.fields.Try.{Try}
+use Rattle.mesh_model.specs.Graph.{outgoing}
+use Rattle.round_model.specs.declared.asks.Ask.TheVariants.{Lock, GiveBack}
+use Rattle.round_model.specs.Order.{Rules, node_order}
+use Rattle.round_model.specs.Tries.{is_odd}
+use Rattle.round_model.specs.Rounds.{Hand, with_member, root_set}
+use Rattle.round_model.specs.Refiners.{Refining, stand_of, asked, held_at, told, all_but_first, gave}
+use Rattle.round_laws.specs.Answers.{try_of}
+use Rattle.cut_refiner.specs.declared.courses.Course.{Course}
+use Rattle.cut_refiner.specs.declared.hands.InHand.{InHand}
+use Rattle.cut_refiner.specs.Courses.{IsGoing, CanJoin}
+use Rattle.cut_refiner.specs.Hands.{IsNextInHand}
+use Rattle.cut_refiner.specs.RoundRules.{AreRules}
+use Rattle.cut_refiner.specs.Refiners.{IsTrying, IsAt}
+use Rattle.cut_refiner.proofs.DegreeLaws.{order_has_few}
+use Rattle.cut_refiner.proofs.OrderLaws.{tried_can_join}
+use Rattle.cut_refiner.proofs.RoundLaws.{IsBetween, between_at_start, settled, patch_is, granted_are, is_tried_here, refused, last_granted, few_after}
+use Rattle.cut_refiner.proofs.AskLaws.{seen_as, IsLocking, locking, owing, not_both, same_hand}
+
+-- ---- a patch that was given back
+
+rest_of : (owed : List ℕ) → drop 1 owed ≡ all_but_first owed
+rest_of [] = refl
+rest_of (p ∷ ps) = refl
+
+pub gave_is : (rules : Rules) (tries : List Try) (owed rest : List ℕ) (seen : Refining) → seen_as rules tries owed ≡ seen → rest ≡ drop 1 owed → seen_as rules tries rest ≡ gave seen
+unfolding gave
+gave_is rules tries owed rest seen same is = ap (seen_as rules tries) (is ∙ rest_of owed) ∙ ap gave same
+
+pub some_owed : (rules : Rules) (tries : List Try) (owed : List ℕ) (seen : Refining) (patch : ℕ) → seen_as rules tries owed ≡ seen → asked seen ≡ GiveBack patch → 1 ≤ length owed
+some_owed rules tries owed seen patch same asks = let is = owing (seen_as rules tries owed) patch (ap asked same ∙ asks) in omega (arith, ap length is.is)
+
+-- ---- what is told
+
+pub even_epoch : (epoch : ℕ) → epoch % 2 ≡ 0 → is_odd epoch ≡ false
+even_epoch epoch even = ne_eqb (epoch % 2) 1 (λ same. omega arith)
+
+pub odd_epoch : (epoch : ℕ) → (epoch % 2 ≡ 0 → ⊥) → is_odd epoch ≡ true
+odd_epoch epoch odd = eq-eqb (epoch % 2) 1 (omega arith)
+
+module _ (rules : Rules) (tries : List Try) (owed : List ℕ) (course : Course) (seen : Refining) (same : seen_as rules tries owed ≡ seen) (patch : ℕ) (asks : asked seen ≡ Lock patch) where
+  abbrev mine : Refining
+  mine = seen_as rules tries owed
+
+  lock : IsLocking mine patch
+  lock = locking mine patch (ap asked same ∙ asks)
+
+  -- the round isn't through
+  pub not_through : IsAt rules tries course None → ⊥
+  not_through at = not_both rules tries course lock.hand at lock.at
+
+  module _ (node granted : ℕ) (trying : IsTrying rules tries course node granted) where
+    abbrev arcs : List ℕ
+    arcs = outgoing rules.mesh.index.fields node
+
+    hand_is : lock.hand ≡ trying.hand
+    hand_is = same_hand rules tries course node granted trying lock.hand lock.at
+
+    read : get_or arcs granted 0 ≡ patch
+    read = patch_is rules tries course node granted trying ∙ ap (λ (h : Hand). h.patch) (sym hand_is) ∙ lock.patch_is
+
+    held : held_at (stand_of mine).at ≡ take granted arcs
+    held = ap held_at lock.at ∙ ap (λ (h : Hand). held_at (Some h)) hand_is ∙ sym (granted_are rules tries course node granted trying)
+
+    abbrev now_tries : ℕ → List Try
+    now_tries epoch = tries ++ try_of (get_or arcs granted 0) epoch ∷ []
+
+    pub told_refused : (epoch : ℕ) → is_odd epoch ≡ false → seen_as rules (now_tries epoch) (take granted arcs) ≡ told seen patch epoch
+    unfolding told
+    told_refused epoch even =
+        ap (λ p. seen_as rules (tries ++ try_of p epoch ∷ []) (take granted arcs)) read
+        ∙ ap (seen_as rules (tries ++ try_of patch epoch ∷ [])) (sym (cond-false (is_odd epoch) [] (held_at (stand_of mine).at) even ∙ held))
+        ∙ ap (λ (r : Refining). told r patch epoch) same
+
+    pub told_granted : (epoch : ℕ) → is_odd epoch ≡ true → seen_as rules (now_tries epoch) owed ≡ told seen patch epoch
+    unfolding told
+    told_granted epoch odd =
+        ap (λ p. seen_as rules (tries ++ try_of p epoch ∷ []) owed) read
+        ∙ ap (seen_as rules (tries ++ try_of patch epoch ∷ [])) (lock.owed ∙ sym (cond-true (is_odd epoch) [] (held_at (stand_of mine).at) odd))
+        ∙ ap (λ (r : Refining). told r patch epoch) same
+
+-- ---- where the round stands then
+
+module _ (rules : Rules) (tries : List Try) (course : Course) (node granted epoch : ℕ) (trying : IsTrying rules tries course node granted) where
+  abbrev then_tries : List Try
+  then_tries = tries ++ try_of (get_or (outgoing rules.mesh.index.fields node) granted 0) epoch ∷ []
+
+  pub after_miss : (new : Course) (hand : Option InHand) → is_odd epoch ≡ false → new.front ≡ course.front → ((rest : List ℕ) → IsGoing rules rest course → IsNextInHand rules rest new hand) → IsAt rules then_tries new hand
+  after_miss new hand even front next =
+      settled rules then_tries trying.rest course new hand (refused rules tries course node granted trying epoch even) trying.going front (next trying.rest trying.going) (few_after rules tries course node granted trying epoch)
+
+  pub can_join : AreRules rules → CanJoin rules trying.rest course node
+  can_join are = tried_can_join rules are trying.gone trying.rest node trying.order course trying.going (is_tried_here rules tries course node granted trying) trying.outside
+
+  pub after_join : AreRules rules → (joined new : Course) (hand : Option InHand) → is_odd epoch ≡ true → length (outgoing rules.mesh.index.fields node) ≤ granted + 1 → joined.front.in_cut.items ≡ with_member course.front.in_cut.items node → ((rest : List ℕ) → CanJoin rules rest course node → IsGoing rules rest joined) → new.front ≡ joined.front → ((rest : List ℕ) → IsGoing rules rest joined → IsNextInHand rules rest new hand) → IsAt rules then_tries new hand
+  after_join are joined new hand odd all set going front next =
+      let goes = going trying.rest (can_join are) in
+      settled rules then_tries trying.rest joined new hand
+      (subst (λ (s : List Bool). IsBetween rules then_tries s trying.rest) (sym set) (last_granted rules tries course node granted trying epoch odd all))
+      goes front (next trying.rest goes) (few_after rules tries course node granted trying epoch)
+
+-- ---- where a round begins
+
+pub at_start : (rules : Rules) (old new : Course) (hand : Option InHand) → old.front.in_cut.items ≡ root_set rules → IsGoing rules (node_order rules) old → new.front ≡ old.front → IsNextInHand rules (node_order rules) new hand → IsAt rules [] new hand
+at_start rules old new hand set going front next =
+    settled rules [] (node_order rules) old new hand
+    (subst (λ (s : List Bool). IsBetween rules [] s (node_order rules)) (sym set) (between_at_start rules))
+    going front next (omega (arith, order_has_few rules))

@@ -1,0 +1,6 @@
+-- The nodes before this one have their scores.
+use Rattle.std.proofs.Common.{◌≡◌, take}
+use Rattle.cut_refiner.proofs.round_rules.scoring.scores_of.Given as goal
+
+abbrev pub invariant-loop-node : goal.invariant-loop-node
+invariant-loop-node g l = l.scores.items ≡ take l.node (g.W.Want.scores l.want l.mesh.lists)

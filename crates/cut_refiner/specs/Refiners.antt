@@ -1,0 +1,48 @@
+-- What a refiner keeps true of its parts.
+use Rattle.std.specs.Prelude.{◌≡◌, ℕ, ◌+◌, ◌-◌, ◌≤◌, Bool, false, List, [], ◌∷◌, ◌++◌, length, Option, Some, None, vec_capacity}
+use Rattle.std.specs.List.{sum_by}
+use Rattle.std.specs.declared.vec.Vec.{Vec}
+use Rattle.std.specs.declared.alloc.Global.{Global}
+use Rattle.file_model.specs.declared.fields.Try.{Try}
+use Rattle.mesh_model.specs.Graph.{outgoing}
+use Rattle.round_model.specs.Order.{Rules, node_order}
+use Rattle.round_model.specs.Rounds.{Hand, has, round_of, epochs_of}
+use Rattle.cut_refiner.specs.declared.courses.Course.{Course}
+use Rattle.cut_refiner.specs.declared.cut_lists.CutLists.{CutLists}
+use Rattle.cut_refiner.specs.declared.hands.InHand.{InHand}
+use Rattle.cut_refiner.specs.RoundRules.{AreRules}
+use Rattle.cut_refiner.specs.Courses.{IsGoing}
+use Rattle.cut_refiner.specs.Hands.{AreLists}
+
+-- how many patches lead from the node
+abbrev pub degree : Rules → ℕ → ℕ
+degree rules v = length (outgoing rules.mesh.index.fields v)
+
+-- the round is through with this set, and all epochs were used
+pub record IsThrough (rules : Rules) (tries : List Try) (set : List Bool) : Type 0 where
+  pub stand : round_of rules (epochs_of tries) ≡ record { set = set; tries = tries; at = None; unused = [] }
+
+-- the round stands at a patch of this node, of whose patches so many were granted
+pub record IsTrying (rules : Rules) (tries : List Try) (course : Course) (node granted : ℕ) : Type 0 where
+  pub hand : Hand
+  pub stand : round_of rules (epochs_of tries) ≡ record { set = course.front.in_cut.items; tries = tries; at = Some hand; unused = [] }
+  pub node_is : hand.node ≡ node
+  pub granted_is : length hand.granted ≡ granted
+  pub outside : has course.front.in_cut.items node ≡ false
+  pub gone : List ℕ
+  pub rest : List ℕ
+  pub order : node_order rules ≡ gone ++ node ∷ rest
+  pub going : IsGoing rules rest course
+  pub most : length tries + (degree rules node - granted) + sum_by (degree rules) rest ≤ length rules.mesh.index.fields
+
+-- where the round stands
+abbrev pub IsAt : Rules → List Try → Course → Option InHand → Type 0
+IsAt rules tries course None = IsThrough rules tries course.front.in_cut.items
+IsAt rules tries course (Some hand) = IsTrying rules tries course hand.node hand.granted
+
+-- what the parts of a refiner are to each other
+pub record IsRefiner (rules : Rules) (tries : Vec Try Global) (course : Course) (lists : CutLists) (hand : Option InHand) : Type 0 where
+  pub are : AreRules rules
+  pub at : IsAt rules tries.items course hand
+  pub room : length rules.mesh.index.fields ≤ vec_capacity tries
+  pub are_lists : AreLists rules course.front.in_cut.items lists hand

@@ -1,0 +1,167 @@
+//! A round, step by step.
+
+use crate::courses::Course;
+use crate::cut_lists::CutLists;
+use crate::hands::{InHand, go_on};
+use crate::round_rules::RoundRules;
+use dag_check::Mesh;
+use error_metric::Want;
+use file_model::Try;
+use grid_vertex::NoMemory;
+use round_model::Ask;
+use std::alloc::Global;
+use std::marker::Model;
+
+/// A round over a mesh: it says what is tried next, and takes the answers. All its memory is taken when
+/// it begins.
+#[derive(Drop)]
+pub struct Refiner<'m> {
+    rules: RoundRules<'m>,
+    course: Course,
+    hand: Option<InHand>,
+    owed: &'m [u32],
+    tries: Vec<Try>,
+    lists: CutLists,
+}
+
+impl<'m> Model for Refiner<'m> {
+    ghost use Rattle.round_model.specs.Refiners.{Refining};
+
+    ghost Value = { Refining };
+
+    ghost use Rattle.cut_refiner.specs.Refiners.{IsRefiner};
+
+    ghost view = { λ r. record { rules = r.rules; tries = r.tries.items; owed = r.owed.now } };
+
+    ghost invariant = { λ r. IsRefiner r.rules r.tries r.course r.lists r.hand };
+}
+
+impl<'m> Refiner<'m> {
+    ghost use Rattle.std.specs.Prelude.{◌≡◌, ℕ, ◌<◌, ◌≤◌, [], length, IfOk};
+    ghost use Rattle.file_model.specs.Lists.{FileLists};
+    ghost use Rattle.mesh_model.specs.Nets.{HaveOneNet};
+    ghost use Rattle.mesh_model.specs.Frames.{IsCut};
+    ghost use Rattle.mesh_model.specs.Accepted.{IsAccepted, triangles_out_of};
+    ghost use Rattle.round_model.specs.Rounds.{has, IsWhole};
+    ghost use Rattle.round_model.specs.Refiners.{stand_of, asked, told, gave, cut_of, cut_patches};
+    ghost use Rattle.round_model.specs.declared.asks.Ask.TheVariants.{Lock, GiveBack, Done};
+    ghost use Rattle.frame_laws.specs.Frames.{frame_of_set};
+    ghost use Rattle.error_metric.specs.Wants.{rules_of};
+
+    /// A round at its start, in which a frame with more than `limit` triangles is not refined to. Only
+    /// this call takes memory.
+    pub fn begin<W: Want>(
+        alloc: Global,
+        mesh: &'m Mesh,
+        want: &W,
+        limit: u32,
+    ) -> Result<Refiner<'m>, NoMemory>
+        ensures rules { IfOk result (λ r. r.rules ≡ rules_of mesh.now.lists (W.scores want.now mesh.now.lists) (W.least want.now) limit) }
+        ensures tries { IfOk result (λ r. r.tries ≡ []) }
+        ensures owed { IfOk result (λ r. r.owed ≡ []) }
+    {
+        let rules = RoundRules::new(alloc, mesh, want, limit)?;
+        let index = rules.mesh().index();
+        let tries = Vec::with_capacity(alloc, index.patch_count() as usize)?;
+        let mut lists = CutLists::with_room(
+            alloc,
+            index.node_count() as usize,
+            index.patch_count() as usize,
+        )?;
+        let mut course = Course::begin(alloc, &rules)?;
+        let hand = go_on(&rules, &mut course, &mut lists);
+        Ok(Refiner {
+            rules,
+            course,
+            hand,
+            owed: &[],
+            tries,
+            lists,
+        })
+    }
+
+    /// What comes next.
+    pub fn ask(&self) -> Ask
+        ensures asked { result ≡ asked self.now }
+        ensures whole { result ≡ Done → IsWhole (stand_of self.now) }
+        // Where a patch is asked for, fewer were tried than there are.
+        ensures room { (patch : ℕ) → result ≡ Lock patch → length self.now.tries < length self.now.rules.mesh.index.fields }
+    {
+        if let Some(&patch) = self.owed.first() {
+            return Ask::GiveBack(patch);
+        }
+        match self.hand {
+            Some(hand) => Ask::Lock(self.rules.mesh().outgoing(hand.node)[hand.granted]),
+            None => Ask::Done,
+        }
+    }
+
+    /// Takes the answer to the try that is asked for: its epoch. Condition: `ask` gives `Lock`.
+    pub fn tell(&mut self, epoch: u32)
+        requires { (patch : ℕ) × (asked self.old ≡ Lock patch) }
+        ensures { (patch : ℕ) → asked self.old ≡ Lock patch → self.new ≡ told self.old patch epoch }
+    {
+        let hand = match self.hand {
+            Some(hand) => hand,
+            None => unreachable!(),
+        };
+        let patches = self.rules.mesh().outgoing(hand.node);
+        self.tries.push_reserved(Try {
+            patch: patches[hand.granted],
+            epoch,
+        });
+        if epoch % 2 == 0 {
+            let (granted, _untried) = patches.split_at(hand.granted);
+            self.owed = granted;
+            self.hand = go_on(&self.rules, &mut self.course, &mut self.lists);
+            return;
+        }
+        let granted = hand.granted + 1;
+        if granted < patches.len() {
+            self.hand = Some(InHand {
+                node: hand.node,
+                granted,
+            });
+            return;
+        }
+        self.course.join(&self.rules, hand.node);
+        self.hand = go_on(&self.rules, &mut self.course, &mut self.lists);
+    }
+
+    /// The patch that is asked for was given back. Condition: `ask` gives `GiveBack`.
+    pub fn gave_back(&mut self)
+        requires { (patch : ℕ) × (asked self.old ≡ GiveBack patch) }
+        ensures { self.new ≡ gave self.old }
+    {
+        let (_given, rest) = self.owed.split_at(1);
+        self.owed = rest;
+    }
+
+    /// All answers so far, in the order of the tries.
+    pub fn tries(&self) -> &[Try]
+        ensures value { result.now ≡ self.now.tries }
+        ensures round { result.now ≡ (stand_of self.now).tries }
+    {
+        &self.tries
+    }
+
+    /// The nodes of the cut, ascending. Condition: `ask` gives `Done`.
+    pub fn cut(&self) -> &[u32]
+        requires { asked self.now ≡ Done }
+        ensures nodes { result.now ≡ cut_of self.now }
+        ensures cut { IsCut self.now.rules.mesh.index.fields self.now.rules.mesh.root (has (stand_of self.now).set) }
+        ensures few { length result.now ≤ 65536 }
+    {
+        &self.lists.nodes
+    }
+
+    /// The patches of the cut's frame, ascending. Condition: `ask` gives `Done`.
+    pub fn patches(&self) -> &[u32]
+        requires { asked self.now ≡ Done }
+        ensures patches { result.now ≡ cut_patches self.now }
+        ensures boundary { (file : FileLists) → IsAccepted file self.now.rules.mesh.root → file.index ≡ self.now.rules.mesh.index → HaveOneNet (frame_of_set file (has (stand_of self.now).set)) (triangles_out_of file self.now.rules.mesh.root) }
+        ensures few { length result.now ≤ 65536 }
+    {
+        &self.lists.patches
+    }
+}

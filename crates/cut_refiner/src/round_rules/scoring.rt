@@ -1,0 +1,19 @@
+//! The scores of all nodes.
+
+ghost use Rattle.std.specs.Prelude.{◌≡◌, IfOk};
+
+use dag_check::Mesh;
+use error_metric::Want;
+use grid_vertex::NoMemory;
+use std::alloc::Global;
+
+/// Each node's score.
+pub fn scores_of<W: Want>(alloc: Global, mesh: &Mesh, want: &W) -> Result<Vec<u64>, NoMemory>
+    ensures { IfOk result (λ scores. scores.items ≡ W.scores want.now mesh.now.lists) }
+{
+    let mut scores = Vec::new(alloc);
+    for node in 0..mesh.index().node_count() {
+        scores.push(want.score(mesh, node))?;
+    }
+    Ok(scores)
+}
