@@ -1,7 +1,6 @@
 -- What a load's refusal is to a text.
 use Rattle.std.proofs.Common.{◌≡◌, ℕ, List, Option, Some, None, Ok, Err, subst, sym}
 use Rattle.std.specs.Prelude.{IfSome}
-use Rattle.std.specs.Global.{Vec}
 use Rattle.file_model.specs.Lists.{IndexLists, FileLists}
 use Rattle.file_model.specs.Reading.{file_in}
 use Rattle.body_loads.specs.declared.refusals.LoadRefusal.{LoadRefusal}

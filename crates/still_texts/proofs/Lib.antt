@@ -1,2 +1,3 @@
 pub mod ShownLemmas
 pub mod GivenLemmas
+pub mod FullLemmas

@@ -6,6 +6,8 @@
 
 mod accepted;
 mod bases;
+mod fulls;
 
 pub use accepted::accepted_text;
 pub use bases::base_text;
+pub use fulls::full_text;

@@ -1,7 +1,3 @@
-use Rattle.std.proofs.Common.{◌≡◌, List, length, sym, subst, rules}
-use Rattle.file_model.specs.declared.fields.Node.{Node}
-use Rattle.file_model.specs.Lists.{IndexLists}
-use Rattle.mesh_model.specs.Frames.{triangles_in_all}
 use Rattle.text_model.specs.AcceptedText.{accepted_line}
 use Rattle.still_texts.proofs.ShownLemmas.{first_piece}
 use Rattle.still_texts.proofs.accepted.accepted_text.Goals as goal

@@ -1,0 +1,70 @@
+//! The frame of a round in which every try is granted.
+
+ghost use Rattle.std.specs.Prelude.{◌≡◌, ◌≤◌, [], Ok, IfOk, IfErr, IfSome};
+ghost use Rattle.std.specs.List.{AllByRecursion};
+ghost use Rattle.file_model.specs.Lists.{FileLists};
+ghost use Rattle.file_model.specs.Reading.{file_in};
+ghost use Rattle.view_outside.specs.Faults.{Rose};
+ghost use Rattle.view_outside.specs.Files.{HasFile, file_bytes};
+ghost use Rattle.round_model.specs.declared.asks.Ask.TheVariants.{Done};
+ghost use Rattle.round_model.specs.Rounds.{IsWhole};
+ghost use Rattle.round_model.specs.Refiners.{asked, stand_of};
+ghost use Rattle.dag_check.specs.Checks.{IsMeshOf};
+ghost use Rattle.body_loads.specs.Loads.{LoadsOnlyIf};
+ghost use Rattle.still_texts.specs.Full.{IsFullText, view_rules};
+ghost use Rattle.still_texts.specs.Texts.{GivesText};
+
+use body_loads::{LoadRefusal, load_bodies};
+use cut_refiner::{Ask, Refiner};
+use dag_check::Mesh;
+use error_metric::View;
+use frame_writer::frame_text;
+use grid_vertex::NoMemory;
+use std::alloc::Global;
+use view_outside::Store;
+
+// A round of the view in which every try is granted.
+fn granted_round<'m>(alloc: Global, mesh: &'m Mesh, view: &View) -> Result<Refiner<'m>, NoMemory>
+    ensures rules { IfOk result (λ round. round.rules ≡ view_rules view.now mesh.now.lists) }
+    ensures done { IfOk result (λ round. asked round ≡ Done) }
+    ensures whole { IfOk result (λ round. IsWhole (stand_of round)) }
+    ensures granted { IfOk result (λ round. AllByRecursion (λ answer. answer.epoch ≡ 1) round.tries) }
+{
+    let mut round = Refiner::begin(alloc, mesh, view, view.limit())?;
+    while let Ask::Lock(_) = round.ask() {
+        round.tell(1);
+    }
+    Ok(round)
+}
+
+/// The frame of a round of the view in which every try is granted, as the first of a session 0. Its bodies
+/// are read again, in the order of their patches.
+pub fn full_text<S: Store>(
+    alloc: Global,
+    mesh: &Mesh,
+    view: &View,
+    store: &mut S,
+    file: u32,
+) -> Result<Vec<u8>, LoadRefusal>
+    requires { HasFile (S.files store.old) file }
+    ensures told { IfSome (file_bytes (S.files store.old) file) (λ bytes. (lists : FileLists) → file_in bytes ≡ Ok lists
+        → IsMeshOf lists mesh.now → GivesText (IsFullText view.now lists mesh.now.lists.root) result) }
+    ensures kept { S.files store.new ≡ S.files store.old }
+    ensures later { S.faults store.old ≤ S.faults store.new }
+    ensures cause { IfErr result (LoadsOnlyIf (Rose (S.faults store.old) (S.faults store.new))) }
+{
+    let round = granted_round(alloc, mesh, view)?;
+    let bodies = load_bodies(alloc, mesh.index(), store, file, round.patches())?;
+    let mut text = Vec::new(alloc);
+    frame_text(
+        alloc,
+        0,
+        1,
+        round.cut(),
+        round.tries(),
+        round.patches(),
+        &bodies,
+        &mut text,
+    )?;
+    Ok(text)
+}
