@@ -9,13 +9,15 @@ use Rattle.mesh_model.specs.Accepted.{IsAccepted, IsMeshFault}
 use Rattle.text_model.specs.AcceptedText.{IsAcceptedText}
 use Rattle.text_model.specs.declared.statuses.Status.{Status}
 use Rattle.still_texts.specs.Shown.{IsBaseText}
+use Rattle.still_texts.specs.Full.{IsFullText}
 use Rattle.viewer_program.specs.declared.commands.Command.{Command}
-use Rattle.viewer_program.specs.declared.commands.Command.TheVariants.{Base, Check}
+use Rattle.viewer_program.specs.declared.commands.Command.TheVariants.{Base, Check, Full}
 
 -- the text that a command writes of an accepted file with this root
 abbrev pub IsTextOf : Command → FileLists → ℕ → List ℕ → Type 0
 IsTextOf Base file root text = IsBaseText file root text
 IsTextOf Check file root text = IsAcceptedText file root text
+IsTextOf (Full view) file root text = IsFullText view file root text
 
 -- a text of an accepted file
 pub record IsOfAccepted (is_text : FileLists → ℕ → List ℕ → Type 0) (bytes text : List ℕ) : Type 0 where

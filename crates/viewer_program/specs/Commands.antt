@@ -1,7 +1,10 @@
 -- What the words ask for.
-use Rattle.std.specs.Prelude.{ℕ, Bool, ◌==◌, List, [], ◌∷◌, length, Option, Some, None, codes, bytes_eq, if◌then◌else◌}
+use Rattle.std.specs.Prelude.{ℕ, Bool, ◌==◌, List, [], ◌∷◌, length, Option, Some, None, option_map, ℤ, codes, bytes_eq, if◌then◌else◌}
+use Rattle.grid_vertex.specs.declared.points.Point.{Point}
+use Rattle.number_words.specs.Numbers.{number_in, signed_in}
+use Rattle.error_metric.specs.Views.{ViewSeen, view_of}
 use Rattle.viewer_program.specs.declared.commands.Command.{Command}
-use Rattle.viewer_program.specs.declared.commands.Command.TheVariants.{Base, Check}
+use Rattle.viewer_program.specs.declared.commands.Command.TheVariants.{Base, Check, Full}
 
 -- the command of a word and a file's name, which isn't empty
 abbrev pub command_with_file_in : List ℕ → List ℕ → Option Command
@@ -11,8 +14,26 @@ command_with_file_in first name =
     if bytes_eq first (codes "check") then Some Check else
     None
 
+-- the point that three words spell
+abbrev pub point_in : Option ℤ → Option ℤ → Option ℤ → Option Point
+point_in (Some x) (Some y) (Some z) = Some (record { x = x; y = y; z = z })
+point_in x y z = None
+
+-- the view of these numbers, where all are there and in their ranges
+abbrev pub view_in : Option Point → Option ℕ → Option ℕ → Option ℕ → Option ViewSeen
+view_in (Some eye) (Some focal) (Some threshold) (Some limit) = view_of eye focal threshold limit
+view_in eye focal threshold limit = None
+
+-- the command of a word, a file's name and a view
+abbrev pub command_with_view_in : List ℕ → List ℕ → Option ViewSeen → Option Command
+command_with_view_in first name view =
+    if length name == 0 then None else
+    if bytes_eq first (codes "full") then option_map Full view else
+    None
+
 abbrev pub command_in : List (List ℕ) → Option Command
 command_in (first ∷ name ∷ []) = command_with_file_in first name
+command_in (first ∷ name ∷ x ∷ y ∷ z ∷ focal ∷ threshold ∷ limit ∷ []) = command_with_view_in first name (view_in (point_in (signed_in 2097152 x) (signed_in 2097152 y) (signed_in 2097152 z)) (number_in 65536 focal) (number_in 65536 threshold) (number_in 4294967295 limit))
 command_in others = None
 
 -- the name of the file, the second word

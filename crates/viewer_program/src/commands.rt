@@ -1,5 +1,7 @@
 //! The commands that the program's words name.
 
+use error_metric::View;
+
 /// What the words ask for.
 #[derive(Clone, Copy, Debug, PartialEq, Eq)]
 pub enum Command {
@@ -7,6 +9,8 @@ pub enum Command {
     Base,
     /// The line of an accepted file.
     Check,
+    /// The frame of the view where every try is granted.
+    Full(View),
 }
 
 mod reading;

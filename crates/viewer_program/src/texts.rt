@@ -17,7 +17,7 @@ use body_loads::LoadRefusal;
 use dag_check::{CheckRefusal, Mesh, check};
 use patch_file::read_index;
 use std::alloc::Global;
-use still_texts::{accepted_text, base_text};
+use still_texts::{accepted_text, base_text, full_text};
 use text_model::Status;
 use view_outside::Store;
 
@@ -54,6 +54,7 @@ fn text_of<S: Store>(
             Ok(text) => Ok(text),
             Err(_) => Err(LoadRefusal::Memory),
         },
+        Command::Full(view) => full_text(alloc, mesh, &view, store, file),
     }
 }
 

@@ -1,17 +1,32 @@
 //! Reading the words.
 
 ghost use Rattle.std.specs.Prelude.{◌≡◌, map, string_bytes};
-ghost use Rattle.viewer_program.specs.Commands.{command_in, command_with_file_in, name_in};
+ghost use Rattle.number_words.specs.Numbers.{number_in, signed_in};
+ghost use Rattle.viewer_program.specs.Commands.{command_in, command_with_file_in, command_with_view_in, view_in, point_in, name_in};
 
 use super::Command;
+use error_metric::View;
+use grid_vertex::Point;
+use number_words::{read_number, read_signed};
+
+// How far from 0 a coordinate of an eye is at most.
+const REACH: u32 = 2_097_152;
+
+// The greatest focal number, and the greatest threshold.
+const MOST: u64 = 65_536;
 
 /// The command that the words name; none where they are no command. They don't include the
 /// program's name.
 pub fn command_of(words: &[String]) -> Option<Command>
     ensures { result ≡ command_in (map string_bytes words.now) }
 {
-    match words {
-        [first, name] => command_with_file(first.as_str(), name.as_str()),
+    match words.len() {
+        2 => command_with_file(words[0].as_str(), words[1].as_str()),
+        8 => {
+            let eye = read_point(words[2].as_str(), words[3].as_str(), words[4].as_str());
+            let view = read_view(eye, words[5].as_str(), words[6].as_str(), words[7].as_str());
+            command_with_view(words[0].as_str(), words[1].as_str(), view)
+        }
         _ => None,
     }
 }
@@ -28,6 +43,37 @@ fn command_with_file(first: &str, name: &str) -> Option<Command>
         "check" => Some(Command::Check),
         _ => None,
     }
+}
+
+// The command of a word, a file's name and a view.
+fn command_with_view(first: &str, name: &str, view: Option<View>) -> Option<Command>
+    ensures { result ≡ command_with_view_in first.now name.now view }
+{
+    if name.is_empty() || first != "full" {
+        return None;
+    }
+    Some(Command::Full(view?))
+}
+
+// The point that three words spell.
+fn read_point(x: &str, y: &str, z: &str) -> Option<Point>
+    ensures { result ≡ point_in (signed_in 2097152 x.now) (signed_in 2097152 y.now) (signed_in 2097152 z.now) }
+{
+    let x = read_signed(x, REACH)?;
+    let y = read_signed(y, REACH)?;
+    let z = read_signed(z, REACH)?;
+    Some(Point { x, y, z })
+}
+
+// The view from an eye that three words spell.
+fn read_view(eye: Option<Point>, focal: &str, threshold: &str, limit: &str) -> Option<View>
+    ensures { result ≡ view_in eye (number_in 65536 focal.now) (number_in 65536 threshold.now) (number_in 4294967295 limit.now) }
+{
+    let eye = eye?;
+    let focal = read_number(focal, MOST)?;
+    let threshold = read_number(threshold, MOST)?;
+    let limit = read_number(limit, u64::from(u32::MAX))?;
+    View::new(eye, focal as u32, threshold as u32, limit as u32)
 }
 
 /// The name of the file that the words name; empty where they name none.
