@@ -11,7 +11,9 @@ use text_model::{ScriptFault, Status};
 use view_outside::{MemorySink, MemorySource, MemoryStore, NamedFile, Store};
 
 mod changing;
+mod large;
 mod samples;
+mod views;
 
 use changing::ChangingStore;
 use samples::{CIRCLE, HALVES, SQUARE, SQUARE_2, TURNED, bytes_of};
