@@ -1,105 +1,60 @@
 //! The strip of two columns: what is kept after each of its bodies.
 
-ghost use Rattle.std.specs.Prelude.{◌≡◌, ◌≤◌, length, IfOk};
+ghost use Rattle.std.specs.Prelude.{◌≡◌, pos, length, IfOk};
+ghost use Rattle.file_model.specs.Rules.{IsPatchFile};
+ghost use Rattle.file_model.specs.Spelling.{file_text};
 ghost use Rattle.view_outside.specs.Files.{HasFile};
 
 use super::*;
-use patch_file::{Body, Index};
+use bodies::{high_half, low_half, point, seam, square};
+use grid_vertex::Ball;
+use patch_file::{Body, FileParts, Index, Node, PatchField, write_file};
+use view_outside::MemorySink;
 
-/// Appends numbers of four bytes.
-fn put(bytes: &mut Vec<u8>, numbers: &[u32]) -> Result<(), AllocError> {
-    for number in numbers {
-        bytes.extend_from_slice(&number.to_le_bytes())?;
-    }
-    Ok(())
-}
+mod bodies;
 
-/// Appends numbers of two bytes.
-fn put_short(bytes: &mut Vec<u8>, numbers: &[u16]) -> Result<(), AllocError> {
-    for number in numbers {
-        bytes.extend_from_slice(&number.to_le_bytes())?;
-    }
-    Ok(())
-}
-
-/// Appends a body by the x and y of its points and the corners of its triangles.
-fn put_body(
-    bytes: &mut Vec<u8>,
-    points: &[[u32; 2]],
-    triangles: &[[u16; 3]],
-) -> Result<(), AllocError> {
-    for [x, y] in points {
-        put(bytes, &[*x, *y, 0])?;
-    }
-    for corners in triangles {
-        put_short(bytes, corners)?;
-    }
-    Ok(())
-}
-
-/// Appends the square of the column that begins at x.
-fn put_square(bytes: &mut Vec<u8>, x: u32) -> Result<(), AllocError>
-    requires { x ≤ 4 }
+/// A node whose centre is (x, y, 0).
+fn node(x: i32, y: i32, radius: u32, error: u32) -> Node
+    ensures { result ≡ record { ball = record { centre = record { x = x; y = y; z = pos 0 }; radius = radius }; error = error } }
 {
-    let points = [[x, 0], [x + 4, 0], [x + 4, 4], [x, 4]];
-    put_body(bytes, &points, &[[0, 1, 2], [0, 2, 3]])
+    let centre = point(x, y);
+    Node {
+        ball: Ball { centre, radius },
+        error,
+    }
 }
 
-/// Appends the left and bottom half of the column's square round its centre, and then the other half.
-fn put_halves(bytes: &mut Vec<u8>, x: u32) -> Result<(), AllocError>
-    requires { x ≤ 4 }
+/// The arc of a patch, and how many points and triangles it has.
+fn field(tail: u32, head: u32, points: u16, triangles: u16) -> PatchField
+    ensures { result ≡ record { tail = tail; head = head; points = points; triangles = triangles } }
 {
-    let low = [[x, 0], [x + 4, 0], [x, 4], [x + 2, 2]];
-    put_body(bytes, &low, &[[2, 0, 3], [0, 1, 3]])?;
-    let high = [[x + 4, 0], [x + 4, 4], [x, 4], [x + 2, 2]];
-    put_body(bytes, &high, &[[0, 1, 3], [1, 2, 3]])
+    PatchField {
+        tail,
+        head,
+        points,
+        triangles,
+    }
 }
 
-/// Appends the seam between the columns, with its middle point.
-fn put_seam(bytes: &mut Vec<u8>) -> Result<(), AllocError> {
-    let points = [[4, 0], [4, 4], [0, 4], [2, 2], [8, 0], [6, 2], [4, 2]];
-    let triangles = [
-        [0, 6, 3],
-        [6, 1, 3],
-        [1, 2, 3],
-        [1, 6, 5],
-        [6, 0, 5],
-        [0, 4, 5],
-    ];
-    put_body(bytes, &points, &triangles)
-}
-
-/// The strip's file: a root, a node for each column, one for the seam, and the sink.
-fn strip(alloc: Global) -> Result<Vec<u8>, AllocError> {
-    let mut bytes = Vec::new(alloc);
-    put(&mut bytes, &[0x4754_4D42, 1, 5, 7])?;
-    for node in [
-        [4, 2, 0, 9, 128],
-        [2, 2, 0, 7, 64],
-        [6, 2, 0, 7, 48],
-        [4, 2, 0, 5, 16],
-        [0, 0, 0, 0, 0],
-    ] {
-        put(&mut bytes, &node)?;
-    }
-    for (tail, head, points, triangles) in [
-        (0, 1, 4, 2),
-        (0, 2, 4, 2),
-        (1, 4, 4, 2),
-        (1, 3, 4, 2),
-        (2, 3, 4, 2),
-        (2, 4, 4, 2),
-        (3, 4, 7, 6),
-    ] {
-        put(&mut bytes, &[tail, head])?;
-        put_short(&mut bytes, &[points, triangles])?;
-    }
-    put_square(&mut bytes, 0)?;
-    put_square(&mut bytes, 4)?;
-    put_halves(&mut bytes, 0)?;
-    put_halves(&mut bytes, 4)?;
-    put_seam(&mut bytes)?;
-    Ok(bytes)
+/// The strip: a root, a node for each column, one for the seam, and the sink.
+#[tactic(auto, unfolding(file_model::specs::Rules::are_bodies))]
+fn strip_parts(alloc: Global) -> Result<FileParts, NoMemory>
+    ensures { IfOk result (λ parts. IsPatchFile parts (file_text parts)) }
+{
+    let mut parts = FileParts::new(alloc);
+    parts.add_node(node(4, 2, 9, 128))?;
+    parts.add_node(node(2, 2, 7, 64))?;
+    parts.add_node(node(6, 2, 7, 48))?;
+    parts.add_node(node(4, 2, 5, 16))?;
+    parts.add_node(node(0, 0, 0, 0))?;
+    parts.add_patch(field(0, 1, 4, 2), square(alloc, 0, 0)?)?;
+    parts.add_patch(field(0, 2, 4, 2), square(alloc, 1, 4)?)?;
+    parts.add_patch(field(1, 4, 4, 2), low_half(alloc, 2, 0)?)?;
+    parts.add_patch(field(1, 3, 4, 2), high_half(alloc, 3, 0)?)?;
+    parts.add_patch(field(2, 3, 4, 2), low_half(alloc, 4, 4)?)?;
+    parts.add_patch(field(2, 4, 4, 2), high_half(alloc, 5, 4)?)?;
+    parts.add_patch(field(3, 4, 7, 6), seam(alloc, 6)?)?;
+    Ok(parts)
 }
 
 fn bodies_of<S: Store>(
@@ -137,7 +92,10 @@ fn run(
 #[test]
 fn sums_are_kept_while_a_node_is_open(rt: HostRuntime) -> Result<(), Fail> {
     let alloc = rt.alloc();
-    let mut store = store_of(alloc, &strip(alloc)?)?;
+    let mut sink = MemorySink::with_room(alloc, 680, 680, Vec::new(alloc))?;
+    write_file(&strip_parts(alloc)?, &mut sink)?;
+    assert_eq!(rt; sink.bytes().len(), 680);
+    let mut store = store_of(alloc, sink.bytes())?;
     let index = read_index(alloc, &mut store, 0)?;
     let bodies = bodies_of(alloc, &index, &mut store)?;
     let (counts, verdict) = run(alloc, index, &bodies)?;
