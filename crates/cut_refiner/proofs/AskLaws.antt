@@ -7,7 +7,6 @@ use Rattle.round_model.specs.Order.{Rules}
 use Rattle.round_model.specs.Rounds.{Hand, Stand, round_of, epochs_of, IsWhole}
 use Rattle.round_model.specs.Refiners.{Refining, stand_of, next_try, next_ask, asked}
 use Rattle.cut_refiner.specs.declared.courses.Course.{Course}
-use Rattle.cut_refiner.specs.declared.hands.InHand.{InHand}
 use Rattle.cut_refiner.specs.Refiners.{IsTrying, IsAt}
 
 -- ---- from what is owed and where the round stands to what is asked for
@@ -34,8 +33,8 @@ asks_next r owed = ap (λ (ps : List ℕ). next_ask ps (stand_of r).at) (none_ow
 pub asks_lock : (r : Refining) (course : Course) (node granted : ℕ) → slice_get r.owed 0 ≡ None → (trying : IsTrying r.rules r.tries course node granted) → asked r ≡ Lock trying.hand.patch
 asks_lock r course node granted owed trying = asks_next r owed ∙ ap (λ (s : Stand). next_try s.at) trying.stand
 
-pub asks_done : (r : Refining) (course : Course) → slice_get r.owed 0 ≡ None → IsAt r.rules r.tries course None → asked r ≡ Done
-asks_done r course owed at = asks_next r owed ∙ ap (λ (s : Stand). next_try s.at) at.stand
+pub asks_done : (r : Refining) (course : Course) (granted : ℕ) → slice_get r.owed 0 ≡ None → IsAt r.rules r.tries course granted None → asked r ≡ Done
+asks_done r course granted owed at = asks_next r owed ∙ ap (λ (s : Stand). next_try s.at) at.stand
 
 -- ---- and back
 
@@ -101,18 +100,18 @@ owing r patch e = back_from r.owed (stand_of r).at patch e
 abbrev pub seen_as : Rules → List Try → List ℕ → Refining
 seen_as rules tries owed = record { rules = rules; tries = tries; owed = owed }
 
-pub through_at_none : (rules : Rules) (tries : List Try) (course : Course) → IsAt rules tries course None → (round_of rules (epochs_of tries)).at ≡ None
-through_at_none rules tries course at = ap (λ (s : Stand). s.at) at.stand
+pub through_at_none : (rules : Rules) (tries : List Try) (course : Course) (granted : ℕ) → IsAt rules tries course granted None → (round_of rules (epochs_of tries)).at ≡ None
+through_at_none rules tries course granted at = ap (λ (s : Stand). s.at) at.stand
 
-pub whole_of : (rules : Rules) (tries : List Try) (course : Course) → IsAt rules tries course None → IsWhole (round_of rules (epochs_of tries))
-whole_of rules tries course at = record { through = ap (λ (s : Stand). s.at) at.stand; used = ap (λ (s : Stand). s.unused) at.stand }
+pub whole_of : (rules : Rules) (tries : List Try) (course : Course) (granted : ℕ) → IsAt rules tries course granted None → IsWhole (round_of rules (epochs_of tries))
+whole_of rules tries course granted at = record { through = ap (λ (s : Stand). s.at) at.stand; used = ap (λ (s : Stand). s.unused) at.stand }
 
-pub none_in_hand : (rules : Rules) (tries : List Try) (course : Course) (hand : Option InHand) → IsAt rules tries course hand → (round_of rules (epochs_of tries)).at ≡ None → hand ≡ None
-none_in_hand rules tries course None at through = refl
-none_in_hand rules tries course (Some hand) at through = absurd (let stands = ap (λ (s : Stand). s.at) at.stand in cc)
+pub none_in_hand : (rules : Rules) (tries : List Try) (course : Course) (granted : ℕ) (hand : Option ℕ) → IsAt rules tries course granted hand → (round_of rules (epochs_of tries)).at ≡ None → hand ≡ None
+none_in_hand rules tries course granted None at through = refl
+none_in_hand rules tries course granted (Some hand) at through = absurd (let stands = ap (λ (s : Stand). s.at) at.stand in cc)
 
-pub not_both : (rules : Rules) (tries : List Try) (course : Course) (hand : Hand) → IsAt rules tries course None → (round_of rules (epochs_of tries)).at ≡ Some hand → ⊥
-not_both rules tries course hand at stands = let through = ap (λ (s : Stand). s.at) at.stand in cc
+pub not_both : (rules : Rules) (tries : List Try) (course : Course) (granted : ℕ) (hand : Hand) → IsAt rules tries course granted None → (round_of rules (epochs_of tries)).at ≡ Some hand → ⊥
+not_both rules tries course granted hand at stands = let through = ap (λ (s : Stand). s.at) at.stand in cc
 
 hand_is : (hand other : Hand) → Some hand ≡ Some other → hand ≡ other
 hand_is hand other e = cc
@@ -121,10 +120,10 @@ pub same_hand : (rules : Rules) (tries : List Try) (course : Course) (node grant
 same_hand rules tries course node granted trying hand stands = hand_is hand trying.hand (sym stands ∙ ap (λ (s : Stand). s.at) trying.stand)
 
 -- the round's tries are the answers so far
-pub tries_at : (rules : Rules) (tries : List Try) (course : Course) (hand : Option InHand) → IsAt rules tries course hand → tries ≡ (round_of rules (epochs_of tries)).tries
-tries_at rules tries course None at = sym (ap (λ (s : Stand). s.tries) at.stand)
-tries_at rules tries course (Some hand) at = sym (ap (λ (s : Stand). s.tries) at.stand)
+pub tries_at : (rules : Rules) (tries : List Try) (course : Course) (granted : ℕ) (hand : Option ℕ) → IsAt rules tries course granted hand → tries ≡ (round_of rules (epochs_of tries)).tries
+tries_at rules tries course granted None at = sym (ap (λ (s : Stand). s.tries) at.stand)
+tries_at rules tries course granted (Some hand) at = sym (ap (λ (s : Stand). s.tries) at.stand)
 
-pub set_at : (rules : Rules) (tries : List Try) (course : Course) (hand : Option InHand) → IsAt rules tries course hand → (round_of rules (epochs_of tries)).set ≡ course.front.in_cut.items
-set_at rules tries course None at = ap (λ (s : Stand). s.set) at.stand
-set_at rules tries course (Some hand) at = ap (λ (s : Stand). s.set) at.stand
+pub set_at : (rules : Rules) (tries : List Try) (course : Course) (granted : ℕ) (hand : Option ℕ) → IsAt rules tries course granted hand → (round_of rules (epochs_of tries)).set ≡ course.front.in_cut.items
+set_at rules tries course granted None at = ap (λ (s : Stand). s.set) at.stand
+set_at rules tries course granted (Some hand) at = ap (λ (s : Stand). s.set) at.stand

@@ -7,6 +7,7 @@ mod FrontLaws
 mod JoinLaws
 mod ListedLaws
 mod ListingLaws
+mod LockLaws
 mod OrderLaws
 mod PatchLaws
 mod ReadyLaws

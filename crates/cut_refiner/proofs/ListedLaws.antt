@@ -14,7 +14,6 @@ use Rattle.frame_laws.specs.Frames.{frame_of_set}
 use Rattle.round_laws.specs.Cuts.{round_is_cut, round_boundary}
 use Rattle.cut_refiner.specs.declared.courses.Course.{Course}
 use Rattle.cut_refiner.specs.declared.cut_lists.CutLists.{CutLists}
-use Rattle.cut_refiner.specs.declared.hands.InHand.{InHand}
 use Rattle.cut_refiner.specs.RoundRules.{AreRules}
 use Rattle.cut_refiner.specs.Hands.{AreLists, AreListsOf}
 use Rattle.cut_refiner.specs.Refiners.{IsAt}
@@ -23,17 +22,17 @@ use Rattle.cut_refiner.proofs.FrontLaws.{few_nodes, few_fields}
 use Rattle.cut_refiner.proofs.ListingLaws.{few_numbers}
 use Rattle.cut_refiner.proofs.AskLaws.{seen_as, done, none_in_hand, set_at}
 
-module _ (rules : Rules) (tries : List Try) (owed : List ℕ) (course : Course) (lists : CutLists) (hand : Option InHand) (seen : Refining) (same : seen_as rules tries owed ≡ seen) (are : AreRules rules) (at : IsAt rules tries course hand) (listed : AreLists rules course.front.in_cut.items lists hand) (is_done : asked seen ≡ Done) where
+module _ (rules : Rules) (tries : List Try) (owed : List ℕ) (course : Course) (lists : CutLists) (granted : ℕ) (hand : Option ℕ) (seen : Refining) (same : seen_as rules tries owed ≡ seen) (are : AreRules rules) (at : IsAt rules tries course granted hand) (listed : AreLists rules course.front.in_cut.items lists hand) (is_done : asked seen ≡ Done) where
   abbrev mine : Refining
   mine = seen_as rules tries owed
 
   lists_are : AreListsOf rules course.front.in_cut.items lists
   lists_are =
       let through = (done mine (ap asked same ∙ is_done)).at in
-      subst (AreLists rules course.front.in_cut.items lists) (none_in_hand rules tries course hand at through) listed
+      subst (AreLists rules course.front.in_cut.items lists) (none_in_hand rules tries course granted hand at through) listed
 
   set_is : (stand_of mine).set ≡ course.front.in_cut.items
-  set_is = set_at rules tries course hand at
+  set_is = set_at rules tries course granted hand at
 
   nodes_mine : lists.nodes.items ≡ cut_of mine
   unfolding cut_of

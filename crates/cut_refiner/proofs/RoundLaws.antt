@@ -17,9 +17,7 @@ use Rattle.round_laws.specs.Passing.{passes, begins_at, has_first_patch}
 use Rattle.round_laws.specs.Cuts.{inner_no_sink}
 use Rattle.cut_refiner.specs.declared.courses.Course.{Course}
 use Rattle.cut_refiner.specs.declared.fronts.Front.{Front}
-use Rattle.cut_refiner.specs.declared.hands.InHand.{InHand}
-use Rattle.cut_refiner.specs.Courses.{is_among, IsGoing, IsFound, ArePassed}
-use Rattle.cut_refiner.specs.Hands.{IsNextInHand}
+use Rattle.cut_refiner.specs.Courses.{is_among, IsGoing, IsFound, IsNext, ArePassed}
 use Rattle.cut_refiner.specs.Refiners.{degree, IsThrough, IsTrying, IsAt}
 use Rattle.cut_refiner.proofs.AmongLaws.{each_among, middle_among}
 use Rattle.cut_refiner.proofs.OrderLaws.{inner_of_order}
@@ -92,11 +90,11 @@ trying_from rules tries course node granted gone rest between order found none f
     }
 
 -- the round stands at the first patch of the next node, or is through
-pub settled : (rules : Rules) (tries : List Try) (rest : List ℕ) (old new : Course) (hand : Option InHand) → IsBetween rules tries old.front.in_cut.items rest → IsGoing rules rest old → new.front ≡ old.front → IsNextInHand rules rest new hand → length tries + sum_by (degree rules) rest ≤ length rules.mesh.index.fields → IsAt rules tries new hand
-settled rules tries rest old new None between going same next few =
+pub settled : (rules : Rules) (tries : List Try) (rest : List ℕ) (old new : Course) (granted : ℕ) (hand : Option ℕ) → granted ≡ 0 → IsBetween rules tries old.front.in_cut.items rest → IsGoing rules rest old → new.front ≡ old.front → IsNext rules rest new hand → length tries + sum_by (degree rules) rest ≤ length rules.mesh.index.fields → IsAt rules tries new granted hand
+settled rules tries rest old new granted None none between going same next few =
     through_from rules tries new.front.in_cut.items rest (subst (λ (front : Front). IsBetween rules tries front.in_cut.items rest) (sym same) between) next
-settled rules tries rest old new (Some hand) between going same next few =
-    trying_from rules tries new hand.node hand.granted going.gone rest (subst (λ (front : Front). IsBetween rules tries front.in_cut.items rest) (sym same) between) going.order next.0 next.1 few
+settled rules tries rest old new granted (Some node) none between going same next few =
+    trying_from rules tries new node granted going.gone rest (subst (λ (front : Front). IsBetween rules tries front.in_cut.items rest) (sym same) between) going.order next none few
 
 -- ---- an answer
 

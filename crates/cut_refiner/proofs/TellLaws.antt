@@ -1,6 +1,6 @@
 -- The answer to a try, and a patch that was given back.
-use Rattle.std.proofs.Common.{◌≡◌, ℕ, ◌+◌, ◌%◌, ◌≤◌, Bool, true, false, List, [], ◌∷◌, ◌++◌, length, take, drop, get_or, Option, Some, None, refl, sym, ap, subst, ◌∙◌, arith}
-use Rattle.std.proofs.lemmas.Bool.{cond-true, cond-false, eq-eqb, ne_eqb}
+use Rattle.std.proofs.Common.{◌≡◌, ℕ, ◌+◌, ◌≤◌, Bool, true, false, List, [], ◌∷◌, ◌++◌, length, take, drop, get_or, Option, Some, None, refl, sym, ap, subst, ◌∙◌, arith}
+use Rattle.std.proofs.lemmas.Bool.{cond-true, cond-false}
 use Rattle.file_model.specs.declared.fields.Try.{Try}
 use Rattle.mesh_model.specs.Graph.{outgoing}
 use Rattle.round_model.specs.declared.asks.Ask.TheVariants.{Lock, GiveBack}
@@ -10,9 +10,7 @@ use Rattle.round_model.specs.Rounds.{Hand, with_member, root_set}
 use Rattle.round_model.specs.Refiners.{Refining, stand_of, asked, held_at, told, all_but_first, gave}
 use Rattle.round_laws.specs.Answers.{try_of}
 use Rattle.cut_refiner.specs.declared.courses.Course.{Course}
-use Rattle.cut_refiner.specs.declared.hands.InHand.{InHand}
-use Rattle.cut_refiner.specs.Courses.{IsGoing, CanJoin}
-use Rattle.cut_refiner.specs.Hands.{IsNextInHand}
+use Rattle.cut_refiner.specs.Courses.{IsGoing, CanJoin, IsNext}
 use Rattle.cut_refiner.specs.RoundRules.{AreRules}
 use Rattle.cut_refiner.specs.Refiners.{IsTrying, IsAt}
 use Rattle.cut_refiner.proofs.DegreeLaws.{order_has_few}
@@ -35,12 +33,6 @@ some_owed rules tries owed seen patch same asks = let is = owing (seen_as rules 
 
 -- ---- what is told
 
-pub even_epoch : (epoch : ℕ) → epoch % 2 ≡ 0 → is_odd epoch ≡ false
-even_epoch epoch even = ne_eqb (epoch % 2) 1 (λ same. omega arith)
-
-pub odd_epoch : (epoch : ℕ) → (epoch % 2 ≡ 0 → ⊥) → is_odd epoch ≡ true
-odd_epoch epoch odd = eq-eqb (epoch % 2) 1 (omega arith)
-
 module _ (rules : Rules) (tries : List Try) (owed : List ℕ) (course : Course) (seen : Refining) (same : seen_as rules tries owed ≡ seen) (patch : ℕ) (asks : asked seen ≡ Lock patch) where
   abbrev mine : Refining
   mine = seen_as rules tries owed
@@ -49,8 +41,8 @@ module _ (rules : Rules) (tries : List Try) (owed : List ℕ) (course : Course) 
   lock = locking mine patch (ap asked same ∙ asks)
 
   -- the round isn't through
-  pub not_through : IsAt rules tries course None → ⊥
-  not_through at = not_both rules tries course lock.hand at lock.at
+  pub not_through : (granted : ℕ) → IsAt rules tries course granted None → ⊥
+  not_through granted at = not_both rules tries course granted lock.hand at lock.at
 
   module _ (node granted : ℕ) (trying : IsTrying rules tries course node granted) where
     abbrev arcs : List ℕ
@@ -82,30 +74,35 @@ module _ (rules : Rules) (tries : List Try) (owed : List ℕ) (course : Course) 
         ∙ ap (seen_as rules (tries ++ try_of patch epoch ∷ [])) (lock.owed ∙ sym (cond-true (is_odd epoch) [] (held_at (stand_of mine).at) odd))
         ∙ ap (λ (r : Refining). told r patch epoch) same
 
+-- the answer is noted with the patch that was read
+pub noted : (rules : Rules) (tries now : List Try) (node granted place epoch : ℕ) (patches : List ℕ) → now ≡ tries ++ try_of (get_or patches place 0) epoch ∷ [] → patches ≡ outgoing rules.mesh.index.fields node → place ≡ granted → now ≡ tries ++ try_of (get_or (outgoing rules.mesh.index.fields node) granted 0) epoch ∷ []
+noted rules tries now node granted place epoch patches is are same =
+    is ∙ ap (λ (ps : List ℕ). tries ++ try_of (get_or ps place 0) epoch ∷ []) are ∙ ap (λ k. tries ++ try_of (get_or (outgoing rules.mesh.index.fields node) k 0) epoch ∷ []) same
+
 -- ---- where the round stands then
 
 module _ (rules : Rules) (tries : List Try) (course : Course) (node granted epoch : ℕ) (trying : IsTrying rules tries course node granted) where
   abbrev then_tries : List Try
   then_tries = tries ++ try_of (get_or (outgoing rules.mesh.index.fields node) granted 0) epoch ∷ []
 
-  pub after_miss : (new : Course) (hand : Option InHand) → is_odd epoch ≡ false → new.front ≡ course.front → ((rest : List ℕ) → IsGoing rules rest course → IsNextInHand rules rest new hand) → IsAt rules then_tries new hand
-  after_miss new hand even front next =
-      settled rules then_tries trying.rest course new hand (refused rules tries course node granted trying epoch even) trying.going front (next trying.rest trying.going) (few_after rules tries course node granted trying epoch)
+  pub after_miss : (new : Course) (now : ℕ) (hand : Option ℕ) → now ≡ 0 → is_odd epoch ≡ false → new.front ≡ course.front → ((rest : List ℕ) → IsGoing rules rest course → IsNext rules rest new hand) → IsAt rules then_tries new now hand
+  after_miss new now hand none even front next =
+      settled rules then_tries trying.rest course new now hand none (refused rules tries course node granted trying epoch even) trying.going front (next trying.rest trying.going) (few_after rules tries course node granted trying epoch)
 
   pub can_join : AreRules rules → CanJoin rules trying.rest course node
   can_join are = tried_can_join rules are trying.gone trying.rest node trying.order course trying.going (is_tried_here rules tries course node granted trying) trying.outside
 
-  pub after_join : AreRules rules → (joined new : Course) (hand : Option InHand) → is_odd epoch ≡ true → length (outgoing rules.mesh.index.fields node) ≤ granted + 1 → joined.front.in_cut.items ≡ with_member course.front.in_cut.items node → ((rest : List ℕ) → CanJoin rules rest course node → IsGoing rules rest joined) → new.front ≡ joined.front → ((rest : List ℕ) → IsGoing rules rest joined → IsNextInHand rules rest new hand) → IsAt rules then_tries new hand
-  after_join are joined new hand odd all set going front next =
+  pub after_join : AreRules rules → (joined new : Course) (now : ℕ) (hand : Option ℕ) → now ≡ 0 → is_odd epoch ≡ true → length (outgoing rules.mesh.index.fields node) ≤ granted + 1 → joined.front.in_cut.items ≡ with_member course.front.in_cut.items node → ((rest : List ℕ) → CanJoin rules rest course node → IsGoing rules rest joined) → new.front ≡ joined.front → ((rest : List ℕ) → IsGoing rules rest joined → IsNext rules rest new hand) → IsAt rules then_tries new now hand
+  after_join are joined new now hand none odd all set going front next =
       let goes = going trying.rest (can_join are) in
-      settled rules then_tries trying.rest joined new hand
+      settled rules then_tries trying.rest joined new now hand none
       (subst (λ (s : List Bool). IsBetween rules then_tries s trying.rest) (sym set) (last_granted rules tries course node granted trying epoch odd all))
       goes front (next trying.rest goes) (few_after rules tries course node granted trying epoch)
 
 -- ---- where a round begins
 
-pub at_start : (rules : Rules) (old new : Course) (hand : Option InHand) → old.front.in_cut.items ≡ root_set rules → IsGoing rules (node_order rules) old → new.front ≡ old.front → IsNextInHand rules (node_order rules) new hand → IsAt rules [] new hand
-at_start rules old new hand set going front next =
-    settled rules [] (node_order rules) old new hand
+pub at_start : (rules : Rules) (old new : Course) (now : ℕ) (hand : Option ℕ) → now ≡ 0 → old.front.in_cut.items ≡ root_set rules → IsGoing rules (node_order rules) old → new.front ≡ old.front → IsNext rules (node_order rules) new hand → IsAt rules [] new now hand
+at_start rules old new now hand none set going front next =
+    settled rules [] (node_order rules) old new now hand none
     (subst (λ (s : List Bool). IsBetween rules [] s (node_order rules)) (sym set) (between_at_start rules))
     going front next (omega (arith, order_has_few rules))

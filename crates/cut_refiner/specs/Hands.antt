@@ -4,16 +4,8 @@ use Rattle.mesh_model.specs.Graph.{nodes_where}
 use Rattle.mesh_model.specs.Frames.{frame_patches}
 use Rattle.round_model.specs.Order.{Rules}
 use Rattle.round_model.specs.Rounds.{has}
-use Rattle.cut_refiner.specs.declared.courses.Course.{Course}
 use Rattle.cut_refiner.specs.declared.cut_lists.CutLists.{CutLists}
-use Rattle.cut_refiner.specs.declared.hands.InHand.{InHand}
 use Rattle.cut_refiner.specs.CutLists.{HaveRoom}
-use Rattle.cut_refiner.specs.Courses.{ArePassed, IsFound}
-
--- the next node of the rest that is tried by the set, of which no patch was granted yet, or none
-abbrev pub IsNextInHand : Rules → List ℕ → Course → Option InHand → Type 0
-IsNextInHand rules rest course None = ArePassed rules course.front.in_cut.items rest
-IsNextInHand rules rest course (Some hand) = IsFound rules rest course hand.node × (hand.granted ≡ 0)
 
 -- the lists are the nodes of the set and the patches that lead out of it
 pub record AreListsOf (rules : Rules) (set : List Bool) (lists : CutLists) : Type 0 where
@@ -21,6 +13,6 @@ pub record AreListsOf (rules : Rules) (set : List Bool) (lists : CutLists) : Typ
   pub patches_are : lists.patches.items ≡ frame_patches (has set) rules.mesh.index.fields
 
 -- while a node is in hand the lists are empty, and have room
-abbrev pub AreLists : Rules → List Bool → CutLists → Option InHand → Type 0
+abbrev pub AreLists : Rules → List Bool → CutLists → Option ℕ → Type 0
 AreLists rules set lists None = AreListsOf rules set lists
-AreLists rules set lists (Some hand) = HaveRoom (length rules.mesh.index.nodes) (length rules.mesh.index.fields) lists
+AreLists rules set lists (Some node) = HaveRoom (length rules.mesh.index.nodes) (length rules.mesh.index.fields) lists

@@ -4,4 +4,5 @@ pub mod Fronts
 pub mod Courses
 pub mod CutLists
 pub mod Hands
+pub mod Locks
 pub mod Refiners

@@ -1,5 +1,5 @@
 -- What a refiner keeps true of its parts.
-use Rattle.std.specs.Prelude.{◌≡◌, ℕ, ◌+◌, ◌-◌, ◌≤◌, Bool, false, List, [], ◌∷◌, ◌++◌, length, Option, Some, None, vec_capacity}
+use Rattle.std.specs.Prelude.{◌≡◌, ⊤, ℕ, ◌+◌, ◌-◌, ◌<◌, ◌≤◌, Bool, false, List, [], ◌∷◌, ◌++◌, length, take, Option, Some, None, vec_capacity}
 use Rattle.std.specs.List.{sum_by}
 use Rattle.std.specs.declared.vec.Vec.{Vec}
 use Rattle.std.specs.declared.alloc.Global.{Global}
@@ -9,10 +9,10 @@ use Rattle.round_model.specs.Order.{Rules, node_order}
 use Rattle.round_model.specs.Rounds.{Hand, has, round_of, epochs_of}
 use Rattle.cut_refiner.specs.declared.courses.Course.{Course}
 use Rattle.cut_refiner.specs.declared.cut_lists.CutLists.{CutLists}
-use Rattle.cut_refiner.specs.declared.hands.InHand.{InHand}
 use Rattle.cut_refiner.specs.RoundRules.{AreRules}
 use Rattle.cut_refiner.specs.Courses.{IsGoing}
 use Rattle.cut_refiner.specs.Hands.{AreLists}
+use Rattle.cut_refiner.specs.Locks.{LockLists}
 
 -- how many patches lead from the node
 abbrev pub degree : Rules → ℕ → ℕ
@@ -35,14 +35,25 @@ pub record IsTrying (rules : Rules) (tries : List Try) (course : Course) (node g
   pub going : IsGoing rules rest course
   pub most : length tries + (degree rules node - granted) + sum_by (degree rules) rest ≤ length rules.mesh.index.fields
 
--- where the round stands
-abbrev pub IsAt : Rules → List Try → Course → Option InHand → Type 0
-IsAt rules tries course None = IsThrough rules tries course.front.in_cut.items
-IsAt rules tries course (Some hand) = IsTrying rules tries course hand.node hand.granted
+-- where the round stands: at a patch of the node in hand, of whose patches so many were granted, or through
+abbrev pub IsAt : Rules → List Try → Course → ℕ → Option ℕ → Type 0
+IsAt rules tries course granted None = IsThrough rules tries course.front.in_cut.items
+IsAt rules tries course granted (Some node) = IsTrying rules tries course node granted
+
+-- the patches that are locked are the first ones of the node in hand
+abbrev pub AreFirst : Rules → List ℕ → Option ℕ → Type 0
+AreFirst rules locked None = ⊤
+AreFirst rules locked (Some node) = locked ≡ take (length locked) (outgoing rules.mesh.index.fields node)
+
+-- there is room for the patches of each node
+abbrev pub HaveRoomForEach : Rules → ℕ → Type 0
+HaveRoomForEach rules room = (v : ℕ) → v < length rules.mesh.index.nodes → degree rules v ≤ room
 
 -- what the parts of a refiner are to each other
-pub record IsRefiner (rules : Rules) (tries : Vec Try Global) (course : Course) (lists : CutLists) (hand : Option InHand) : Type 0 where
+pub record IsRefiner (rules : Rules) (tries : Vec Try Global) (course : Course) (lists : CutLists) (locks : LockLists) (hand : Option ℕ) : Type 0 where
   pub are : AreRules rules
-  pub at : IsAt rules tries.items course hand
+  pub at : IsAt rules tries.items course (length locks.locked) hand
   pub room : length rules.mesh.index.fields ≤ vec_capacity tries
   pub are_lists : AreLists rules course.front.in_cut.items lists hand
+  pub are_first : AreFirst rules locks.locked hand
+  pub for_each : HaveRoomForEach rules locks.room

@@ -5,13 +5,19 @@
 //! outside the cut, so that no step goes over the nodes or the patches.
 #![tactic(auto)]
 
+mod answers;
 mod candidates;
 mod courses;
 mod cut_lists;
+mod degrees;
 mod fronts;
 mod hands;
+mod locks;
 mod refiners;
 mod round_rules;
 
 pub use refiners::Refiner;
 pub use round_model::Ask;
+
+#[cfg(test)]
+mod tests;

@@ -1,8 +1,11 @@
 //! A round, step by step.
 
+use crate::answers::is_granted;
 use crate::courses::Course;
 use crate::cut_lists::CutLists;
-use crate::hands::{InHand, go_on};
+use crate::degrees::greatest_degree;
+use crate::hands::go_on;
+use crate::locks::Locks;
 use crate::round_rules::RoundRules;
 use dag_check::Mesh;
 use error_metric::Want;
@@ -18,8 +21,8 @@ use std::marker::Model;
 pub struct Refiner<'m> {
     rules: RoundRules<'m>,
     course: Course,
-    hand: Option<InHand>,
-    owed: &'m [u32],
+    hand: Option<u32>,
+    locks: Locks,
     tries: Vec<Try>,
     lists: CutLists,
 }
@@ -31,9 +34,9 @@ impl<'m> Model for Refiner<'m> {
 
     ghost use Rattle.cut_refiner.specs.Refiners.{IsRefiner};
 
-    ghost view = { λ r. record { rules = r.rules; tries = r.tries.items; owed = r.owed.now } };
+    ghost view = { λ r. record { rules = r.rules; tries = r.tries.items; owed = r.locks.owed } };
 
-    ghost invariant = { λ r. IsRefiner r.rules r.tries r.course r.lists r.hand };
+    ghost invariant = { λ r. IsRefiner r.rules r.tries r.course r.lists r.locks r.hand };
 }
 
 impl<'m> Refiner<'m> {
@@ -68,13 +71,14 @@ impl<'m> Refiner<'m> {
             index.node_count() as usize,
             index.patch_count() as usize,
         )?;
+        let locks = Locks::with_room(alloc, greatest_degree(rules.mesh()))?;
         let mut course = Course::begin(alloc, &rules)?;
         let hand = go_on(&rules, &mut course, &mut lists);
         Ok(Refiner {
             rules,
             course,
             hand,
-            owed: &[],
+            locks,
             tries,
             lists,
         })
@@ -87,11 +91,11 @@ impl<'m> Refiner<'m> {
         // Where a patch is asked for, fewer were tried than there are.
         ensures room { (patch : ℕ) → result ≡ Lock patch → length self.now.tries < length self.now.rules.mesh.index.fields }
     {
-        if let Some(&patch) = self.owed.first() {
+        if let Some(patch) = self.locks.first_owed() {
             return Ask::GiveBack(patch);
         }
         match self.hand {
-            Some(hand) => Ask::Lock(self.rules.mesh().outgoing(hand.node)[hand.granted]),
+            Some(node) => Ask::Lock(self.rules.mesh().outgoing(node)[self.locks.count()]),
             None => Ask::Done,
         }
     }
@@ -101,30 +105,24 @@ impl<'m> Refiner<'m> {
         requires { (patch : ℕ) × (asked self.old ≡ Lock patch) }
         ensures { (patch : ℕ) → asked self.old ≡ Lock patch → self.new ≡ told self.old patch epoch }
     {
-        let hand = match self.hand {
-            Some(hand) => hand,
+        let node = match self.hand {
+            Some(node) => node,
             None => unreachable!(),
         };
-        let patches = self.rules.mesh().outgoing(hand.node);
-        self.tries.push_reserved(Try {
-            patch: patches[hand.granted],
-            epoch,
-        });
-        if epoch % 2 == 0 {
-            let (granted, _untried) = patches.split_at(hand.granted);
-            self.owed = granted;
+        let patches = self.rules.mesh().outgoing(node);
+        let patch = patches[self.locks.count()];
+        self.tries.push_reserved(Try { patch, epoch });
+        if !is_granted(epoch) {
+            self.locks.owe();
             self.hand = go_on(&self.rules, &mut self.course, &mut self.lists);
             return;
         }
-        let granted = hand.granted + 1;
-        if granted < patches.len() {
-            self.hand = Some(InHand {
-                node: hand.node,
-                granted,
-            });
+        self.locks.add(patch);
+        if self.locks.count() < patches.len() {
             return;
         }
-        self.course.join(&self.rules, hand.node);
+        self.locks.keep();
+        self.course.join(&self.rules, node);
         self.hand = go_on(&self.rules, &mut self.course, &mut self.lists);
     }
 
@@ -133,8 +131,7 @@ impl<'m> Refiner<'m> {
         requires { (patch : ℕ) × (asked self.old ≡ GiveBack patch) }
         ensures { self.new ≡ gave self.old }
     {
-        let (_given, rest) = self.owed.split_at(1);
-        self.owed = rest;
+        self.locks.give_back();
     }
 
     /// All answers so far, in the order of the tries.
