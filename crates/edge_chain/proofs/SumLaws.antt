@@ -1,6 +1,6 @@
 -- Steps on maps of sums.
 use Rattle.std.proofs.Common.{◌≡◌, Bool, true, false, cond, ℤ, refl, sym, ap, ◌∙◌}
-use Rattle.std.specs.Prelude.{Option, Some, None, is_some}
+use Rattle.std.specs.Prelude.{Option, Some, None}
 use Rattle.std.specs.Ordering.{is_eq}
 use Rattle.std.specs.Cmp.{Equal-is}
 use Rattle.std.proofs.lemmas.Cmp.{tied_itself}
@@ -20,19 +20,17 @@ with_same f edge w e q =
     let at : (t : Bool) → is_at_edge edge q ≡ t → f q ≡ cond t w (f q) = λ t. elim t as (λ t. is_at_edge edge q ≡ t → f q ≡ cond t w (f q)) [ true ↦ λ h. sym (ap f (edge_exact edge q h)) ∙ e | false ↦ λ h. refl ] in
     at (is_at_edge edge q) refl
 
-some_zero : (sum : Option ℤ) → is_some sum ≡ true → sum ≡ Some (or_zero sum)
-some_zero None e = absurd cc
-some_zero (Some v) e = refl
-
-pub placed_same : (f : Edge → Option ℤ) (edge : Edge) → is_some (f edge) ≡ true → (q : Edge) → f q ≡ placed f edge q
-placed_same f edge e = with_same f edge (Some (or_zero (f edge))) (some_zero (f edge) e)
+-- of two sums written at an edge the later one stays
+pub overwritten : (f mid : Edge → Option ℤ) (edge : Edge) (v w : Option ℤ) → ((q : Edge) → mid q ≡ with_sum f edge v q) → (q : Edge) → with_sum mid edge w q ≡ with_sum f edge w q
+overwritten f mid edge v w h q =
+    let at : (t : Bool) → is_at_edge edge q ≡ t → cond t w (mid q) ≡ cond t w (f q) = λ t. elim t as (λ t. is_at_edge edge q ≡ t → cond t w (mid q) ≡ cond t w (f q)) [ true ↦ λ k. refl | false ↦ λ k. h q ∙ ap (λ (t : Bool). cond t v (f q)) k ] in
+    at (is_at_edge edge q) refl
 
 -- a sum written at an edge, and then tidied
 pub tidied_write : (f mid : Edge → Option ℤ) (edge : Edge) (w : Option ℤ) → ((q : Edge) → mid q ≡ with_sum f edge w q) → (q : Edge) → tidied mid edge q ≡ with_sum f edge (unless_zero w) q
 tidied_write f mid edge w h q =
     let here : mid edge ≡ w = h edge ∙ ap (λ (t : Bool). cond t w (f edge)) (at_itself edge) in
-    let at : (t : Bool) → is_at_edge edge q ≡ t → cond t (unless_zero (mid edge)) (mid q) ≡ cond t (unless_zero w) (f q) = λ t. elim t as (λ t. is_at_edge edge q ≡ t → cond t (unless_zero (mid edge)) (mid q) ≡ cond t (unless_zero w) (f q)) [ true ↦ λ k. ap unless_zero here | false ↦ λ k. h q ∙ ap (λ (t : Bool). cond t w (f q)) k ] in
-    at (is_at_edge edge q) refl
+    overwritten f mid edge w (unless_zero (mid edge)) h q ∙ ap (λ (v : Option ℤ). with_sum f edge (unless_zero v) q) here
 
 pub settled : (sum : Option ℤ) → sum ≡ unless_zero sum → unless_zero (Some (or_zero sum)) ≡ sum
 settled None e = refl

@@ -1,9 +1,11 @@
 //! An ordered map of sums.
 
-ghost use Rattle.std.specs.Prelude.{◌≡◌, false, ◌+ℤ◌, IfOk, IfErr, IfSome, OnOk, OnErr, FitsSigned};
+ghost use Rattle.std.specs.Prelude.{◌≡◌, false, pos, ◌+ℤ◌, Some, IfOk, IfErr, IfSome, OnOk, OnErr, FitsSigned};
 ghost use Rattle.std.specs.BTreeMap.{IsOrdered};
+ghost use Rattle.std.specs.Option.{option_eq};
+ghost use Rattle.std.specs.Ordering.{int_eq};
 ghost use Rattle.edge_chain.specs.Edges.{edge_cmp};
-ghost use Rattle.edge_chain.specs.Sums.{sum_of, unless_zero, placed, tidied, raised, is_at_edge, HasSums};
+ghost use Rattle.edge_chain.specs.Sums.{sum_of, with_sum, unless_zero, placed, tidied, turned, raised, is_at_edge, HasSums};
 ghost use Rattle.edge_chain.specs.declared.edges.Edge.{Edge};
 ghost use mir.Syntax.{w64};
 
@@ -20,9 +22,7 @@ pub fn place(sums: &mut Sums, edge: Edge) -> Result<(), NoMemory>
     ensures placed { OnOk result (HasSums sums.new (placed (sum_of sums.old) edge)) }
     ensures unplaced { OnErr result (sums.new.entries ≡ sums.old.entries) }
 {
-    if !sums.contains_key(&edge) {
-        sums.insert(edge, 0)?;
-    }
+    sums.entry(edge)?.or_insert(0);
     Ok(())
 }
 
@@ -36,16 +36,29 @@ pub fn tidy(sums: &mut Sums, edge: Edge)
     }
 }
 
+/// Adds the side's turn to its edge's sum, and tells whether that is 0 then.
+fn turn_sum(sums: &mut Sums, side: Side) -> bool
+    requires ordered { IsOrdered edge_cmp sums.old }
+    requires fits { IfSome (sum_of sums.old side.edge) (λ sum. FitsSigned w64 (sum +ℤ side.turn)) }
+    ensures turned { HasSums sums.new (with_sum (sum_of sums.old) side.edge (turned side (sum_of sums.old side.edge))) }
+    ensures zero { result ≡ option_eq int_eq (turned side (sum_of sums.old side.edge)) (Some (pos 0)) }
+{
+    let Some(sum) = sums.get_mut(&side.edge) else {
+        return false;
+    };
+    *sum += side.turn;
+    *sum == 0
+}
+
 /// Adds the side to its edge's sum, and takes the edge out where that is 0 then.
 pub fn raise(sums: &mut Sums, side: Side)
     requires ordered { IsOrdered edge_cmp sums.old }
     requires fits { IfSome (sum_of sums.old side.edge) (λ sum. FitsSigned w64 (sum +ℤ side.turn)) }
     ensures { HasSums sums.new (raised (sum_of sums.old) side) }
 {
-    if let Some(sum) = sums.get_mut(&side.edge) {
-        *sum += side.turn;
+    if turn_sum(sums, side) {
+        sums.remove(&side.edge);
     }
-    tidy(sums, side.edge);
 }
 
 /// Makes room for the sums of two edges, of which the first has no sum of 0, or leaves the sums as they were.
