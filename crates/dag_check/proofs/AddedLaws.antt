@@ -1,18 +1,12 @@
 -- The triangles of one more patch.
-use Rattle.std.specs.Prelude.{◌≡◌, ℕ, zero, suc, Bool, true, false, List, [], ◌∷◌, ◌++◌, length, slice_get, Some, refl, if◌then◌else◌}
+use Rattle.std.specs.Prelude.{◌≡◌, ℕ, zero, suc, Bool, true, false, List, [], ◌∷◌, ◌++◌, slice_get, Some, refl, if◌then◌else◌}
 use Rattle.std.proofs.Common.{rules, subst, sym, ap, ◌∙◌, append_assoc}
 use Rattle.grid_vertex.specs.declared.triangles.Triangle.{Triangle}
 use Rattle.file_model.specs.declared.fields.PatchField.{PatchField}
-use Rattle.file_model.specs.Lists.{BodyLists, triangles_of, triangles_from, Corners}
-use Rattle.grid_vertex.specs.declared.points.Point.{Point}
+use Rattle.file_model.specs.Lists.{BodyLists, triangles_of}
 use Rattle.mesh_model.specs.Frames.{triangles_where}
 use Rattle.edge_chain.specs.Chains.{Chain, IsNetOf}
 use Rattle.dag_check.specs.Added.{first_triangles, only_if}
-
-pub length-triangles : (points : List Point) (corners : List Corners) → length (triangles_from points corners) ≡ length corners
-unfolding triangles_from
-length-triangles points [] = refl
-length-triangles points (t ∷ ts) = ap (λ n. suc n) (length-triangles points ts)
 
 step_by : (test : Bool) (first rest more : List Triangle) → (if test then first ++ (rest ++ more) else rest ++ more) ≡ (if test then first ++ rest else rest) ++ more
 step_by true first rest more = sym (append_assoc first rest more)

@@ -1,14 +1,6 @@
 -- What stands in a list with one element set, or one more.
-use Rattle.std.specs.Prelude.{◌≡◌, ◌≢◌, ◌⊎◌, ℕ, zero, suc, ◌+◌, ◌<◌, List, [], ◌∷◌, ◌++◌, length, take, slice_get, Some, refl}
-use Rattle.std.proofs.Common.{inl, inr, set, ap, ◌∙◌, arith}
-use Rattle.std.proofs.lemmas.Option.{slice_get_within, get_or_from_slice_get}
-use Rattle.std.proofs.lemmas.List.{take_more}
-
--- one element more
-pub take_one_more : {X : Type 0} → (xs : List X) (n : ℕ) (x : X) → slice_get xs n ≡ Some x → take (n + 1) xs ≡ take n xs ++ x ∷ []
-take_one_more xs n x e =
-    let within = slice_get_within xs n x e in
-    take_more xs n x within ∙ ap (λ (y : _). take n xs ++ y ∷ []) (get_or_from_slice_get xs n x x e)
+use Rattle.std.specs.Prelude.{◌≡◌, ◌≢◌, ◌⊎◌, ℕ, zero, suc, ◌<◌, List, [], ◌∷◌, ◌++◌, length, slice_get, Some, refl}
+use Rattle.std.proofs.Common.{inl, inr, set, ap, arith}
 
 -- what stands in a list with one element set
 pub set_read : {X : Type 0} → (xs : List X) (i v : ℕ) (x y : X) → slice_get (set xs i y) v ≡ Some x → ((v ≡ i) × (x ≡ y)) ⊎ ((v ≢ i) × (slice_get xs v ≡ Some x))

@@ -1,27 +1,13 @@
-//! Adding a body's triangles to the sums of a node.
+//! Adding a body's triangles to the sums of the base.
 
-ghost use Rattle.std.specs.Prelude.{◌≡◌, ◌+◌, ◌*◌, ◌≤◌, List, ◌++◌, length, OnOk};
-ghost use Rattle.grid_vertex.specs.declared.triangles.Triangle.{Triangle};
-ghost use Rattle.file_model.specs.Lists.{triangles_of};
-ghost use Rattle.edge_chain.specs.Chains.{IsNetOf};
+ghost use Rattle.std.specs.Prelude.{◌+◌, ◌*◌, ◌≤◌, length, OnOk};
 ghost use Rattle.dag_check.specs.Added.{AddsToBase};
 
+use body_edges::add_triangles;
 use edge_chain::EdgeChain;
 use grid_vertex::NoMemory;
 use mesh_model::DagFault;
 use patch_file::Body;
-
-/// Adds the triangles of a body.
-pub fn add_triangles(chain: &mut EdgeChain, body: &Body) -> Result<(), NoMemory>
-    requires { chain.old.count ≤ 65535 * 65536 }
-    ensures count { OnOk result (chain.new.count ≡ chain.old.count + length body.now.lists.corners) }
-    ensures nets { OnOk result ((triangles : List Triangle) → IsNetOf triangles chain.old → IsNetOf (triangles ++ triangles_of body.now.lists) chain.new) }
-{
-    for t in 0..body.triangle_count() {
-        chain.add(body.triangle(t))?;
-    }
-    Ok(())
-}
 
 /// Adds the triangles of a body whose patch leads from a node to the sums of the base, where the node
 /// is the root.

@@ -4,8 +4,8 @@ ghost use Rattle.std.specs.Prelude.{◌≡◌, ◌*◌, ◌^◌, ◌<◌, ◌≤
 ghost use Rattle.mesh_model.specs.Nets.{one_if};
 ghost use Rattle.dag_check.specs.Tracks.{new_track, is_under_way, pairs_of, chain_on, IsGrown, settled, Compares, Takes};
 
-use crate::adding::add_triangles;
 use crate::sides::Side;
+use body_edges::add_triangles;
 use edge_chain::{Difference, EdgeChain};
 use grid_vertex::NoMemory;
 use patch_file::Body;

@@ -1,12 +1,11 @@
 -- Frames: their triangles body by body, and their lines in order.
-use Rattle.std.proofs.Common.{◌≡◌, ℕ, suc, ◌+◌, ◌<◌, List, [], ◌∷◌, ◌++◌, length, map, take, get_or, Some, refl, sym, ap, subst, ◌∙◌, append-nil, append_assoc}
+use Rattle.std.proofs.Common.{◌≡◌, ℕ, ◌+◌, ◌<◌, List, [], ◌∷◌, ◌++◌, length, map, take, get_or, Some, sym, ap, subst, ◌∙◌, append-nil}
 use Rattle.std.specs.List.{flat_map, slice_get}
 use Rattle.std.proofs.lemmas.Option.{slice_get_within, get_or_from_slice_get}
 use Rattle.std.proofs.lemmas.List.Concat.{flat_map-append}
 use Rattle.std.proofs.lemmas.List.{take_more, map-append}
-use Rattle.grid_vertex.specs.declared.points.Point.{Point}
 use Rattle.grid_vertex.specs.declared.triangles.Triangle.{Triangle}
-use Rattle.file_model.specs.Lists.{Corners, triangles_from, triangles_of}
+use Rattle.file_model.specs.Lists.{triangles_of}
 use Rattle.text_model.specs.FrameText.{Frame, head_line, cut_line, tries_line, patches_line, triangle_line, front_lines, frame_text}
 use Rattle.text_model.specs.Lines.{Adds}
 use Rattle.patch_body.specs.Seen.{SeenBody}
@@ -17,12 +16,6 @@ use Rattle.frame_writer.specs.Frames.{triangles_in}
 pub flat_map-take_more : {X A : Type 0} (f : X → List A) (xs : List X) (i : ℕ) (d : X) → i < length xs → flat_map f (take (i + 1) xs) ≡ flat_map f (take i xs) ++ f (get_or xs i d)
 flat_map-take_more f xs i d within =
     ap (flat_map f) (take_more xs i d within) ∙ flat_map-append f (take i xs) (get_or xs i d ∷ []) ∙ ap (λ t. flat_map f (take i xs) ++ t) (append-nil (f (get_or xs i d)))
-
--- a body has as many triangles as corners
-pub length-triangles_from : (points : List Point) (corners : List Corners) → length (triangles_from points corners) ≡ length corners
-unfolding triangles_from
-length-triangles_from points [] = refl
-length-triangles_from points (t ∷ ts) = ap (λ n. suc n) (length-triangles_from points ts)
 
 -- the pieces of one body more
 pub triangles_in-take_more : {X : Type 0} (value : X → SeenBody) (xs : List X) (i : ℕ) (d : X) → i < length xs → triangles_in (map value (take (i + 1) xs)) ≡ triangles_in (map value (take i xs)) ++ triangles_of (value (get_or xs i d)).lists
@@ -51,10 +44,3 @@ pub Adds-body : {X : Type 0} (value : X → SeenBody) (xs : List X) (i : ℕ) (d
 Adds-body value xs i d {a} {b} {c} within before lines =
     let more = ap (flat_map triangle_line) (triangles_in-take_more value xs i d within) ∙ flat_map-append triangle_line (triangles_in (map value (take i xs))) (triangles_of (value (get_or xs i d)).lists) in
     subst (Adds a c) (sym more) (Adds-then before lines)
-
--- one element more behind a front
-pub append-take_one : {X : Type 0} (front xs : List X) (i : ℕ) (x : X) → slice_get xs i ≡ Some x → (front ++ take i xs) ++ (x ∷ []) ≡ front ++ take (i + 1) xs
-append-take_one front xs i x at =
-    let within = slice_get_within xs i x at in
-    let here = get_or_from_slice_get xs i x x at in
-    append_assoc front (take i xs) (x ∷ []) ∙ ap (λ t. front ++ t) (ap (λ (y : _). take i xs ++ (y ∷ [])) (sym here) ∙ sym (take_more xs i x within))

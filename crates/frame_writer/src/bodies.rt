@@ -1,9 +1,8 @@
 //! The triangles of bodies.
 
-ghost use Rattle.std.specs.Prelude.{◌≡◌, ◌+◌, ◌*◌, ◌≤◌, List, ◌++◌, length, map, OnOk, OnErr, IfOk};
+ghost use Rattle.std.specs.Prelude.{◌≤◌, length, map, OnOk, OnErr, IfOk};
 ghost use Rattle.std.specs.Arc.{arc_value};
 ghost use Rattle.std.specs.List.{flat_map};
-ghost use Rattle.grid_vertex.specs.declared.triangles.Triangle.{Triangle};
 ghost use Rattle.file_model.specs.Lists.{triangles_of};
 ghost use Rattle.edge_chain.specs.Chains.{IsNetOf};
 ghost use Rattle.text_model.specs.FrameText.{triangle_line};
@@ -12,24 +11,12 @@ ghost use Rattle.frame_writer.specs.Appending.{Begins};
 ghost use Rattle.frame_writer.specs.Frames.{triangles_in};
 
 use crate::triangles::write_triangle;
+use body_edges::add_triangles;
 use edge_chain::EdgeChain;
 use grid_vertex::NoMemory;
 use patch_file::Body;
 use std::alloc::Global;
 use std::sync::Arc;
-
-/// Adds the edges of the body's triangles.
-fn add_edges(body: &Body, chain: &mut EdgeChain) -> Result<(), NoMemory>
-    requires { chain.old.count ≤ 4294967295 * 65536 }
-    ensures few { OnOk result (chain.new.count ≤ chain.old.count + 4294967295) }
-    ensures nets { OnOk result ((triangles : List Triangle) → IsNetOf triangles chain.old
-        → IsNetOf (triangles ++ triangles_of body.now.lists) chain.new) }
-{
-    for triangle in 0..body.triangle_count() {
-        chain.add(body.triangle(triangle))?;
-    }
-    Ok(())
-}
 
 /// The sums of the edges of the bodies' triangles.
 pub fn edges_of(alloc: Global, bodies: &[Arc<Body>]) -> Result<EdgeChain, NoMemory>
@@ -38,7 +25,7 @@ pub fn edges_of(alloc: Global, bodies: &[Arc<Body>]) -> Result<EdgeChain, NoMemo
 {
     let mut chain = EdgeChain::new(alloc);
     for body in bodies {
-        add_edges(body, &mut chain)?;
+        add_triangles(&mut chain, body)?;
     }
     Ok(chain)
 }

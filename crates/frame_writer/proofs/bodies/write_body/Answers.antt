@@ -2,11 +2,12 @@ use Rattle.std.proofs.Common.{◌≤◌, length, subst, arith}
 use Rattle.std.proofs.lemmas.List.{take_all}
 use Rattle.std.specs.List.{flat_map}
 use Rattle.file_model.specs.Lists.{triangles_of}
+use Rattle.body_edges.specs.TriangleCounts.{length-triangles_from}
 use Rattle.text_model.specs.FrameText.{triangle_line}
 use Rattle.text_model.specs.Lines.{Adds}
 use Rattle.frame_writer.specs.Appending.{Adds-begins, Begins-then}
 use Rattle.frame_writer.proofs.LineLemmas.{on_err}
-use Rattle.frame_writer.proofs.FrameLemmas.{Adds-triangle, length-triangles_from}
+use Rattle.frame_writer.proofs.FrameLemmas.{Adds-triangle}
 use Rattle.frame_writer.proofs.bodies.write_body.Goals as goal
 
 pub returns-in_err-write_triangle-clause-err : goal.returns-in_err-write_triangle-clause-err
