@@ -1,8 +1,7 @@
 -- What is nested along patches.
-use Rattle.std.proofs.Common.{◌≡◌, ℕ, ◌+◌, ◌<◌, Bool, List, Option, Some, length, get_or, arith, sym, ◌∙◌, ap, subst, ⊎_elim, ◌||◌}
+use Rattle.std.proofs.Common.{◌≡◌, ℕ, ◌<◌, Bool, List, Option, Some, length, get_or, sym, ◌∙◌, ap, ◌||◌}
 use Rattle.std.specs.Prelude.{IsTrue}
 use Rattle.std.specs.List.{slice_get}
-use Rattle.std.proofs.lemmas.Bool.{cases_eq}
 use Rattle.std.proofs.lemmas.Option.{slice_get-get_or}
 use Rattle.file_model.specs.declared.fields.Node.{Node}
 use Rattle.file_model.specs.declared.fields.PatchField.{PatchField}

@@ -5,3 +5,4 @@ pub mod Arcs
 pub mod Levels
 pub mod Graphs
 pub mod Nesting
+pub mod NearGrid

@@ -1,9 +1,10 @@
-use Rattle.error_metric.proofs.NodeLemmas.{centre_is_near, score_at}
+use Rattle.mesh_graph.specs.NearGrid.{near_grid}
+use Rattle.error_metric.proofs.NodeLemmas.{score_at}
 use Rattle.error_metric.proofs.views.ViewWant.score.Goals as goal
 
 pub score_of_node-requires-clause-centre : goal.score_of_node-requires-clause-centre
 score_of_node-requires-clause-centre c =
-    centre_is_near c.args.mesh.now.lists.index c.index.ensures.facts.rules c.args.node c.node.result (rw (← c.index.ensures.value) c.node.ensures)
+    near_grid c.args.mesh.now.lists.index.nodes c.index.ensures.facts.rules.nodes c.args.node c.node.result (rw (← c.index.ensures.value) c.node.ensures)
 
 pub returns : goal.returns
 returns c =

@@ -1,5 +1,6 @@
 use Rattle.std.proofs.Common.{◌∙◌, length}
-use Rattle.mesh_graph.proofs.RuleLaws.{tails_in, heads_in, near_grid}
+use Rattle.mesh_graph.specs.NearGrid.{near_grid}
+use Rattle.mesh_graph.proofs.RuleLaws.{tails_in, heads_in}
 use Rattle.mesh_graph.proofs.graph.MeshGraph.of.Goals as goal
 
 pub of-requires-clause-ends : goal.of-requires-clause-ends
