@@ -1,5 +1,5 @@
 -- Lists of chosen patches: each is a patch, and they are no more than there are.
-use Rattle.std.proofs.Common.{◌≡◌, ◌<◌, ◌≤◌, ℕ, zero, suc, ◌+◌, Bool, true, false, List, [], ◌∷◌, length, arith}
+use Rattle.std.proofs.Common.{◌<◌, ◌≤◌, ℕ, zero, suc, ◌+◌, Bool, true, false, List, [], ◌∷◌, length, arith}
 use Rattle.std.specs.Prelude.{slice_index_or, nat_le, IsTrue, if◌then◌else◌}
 use Rattle.std.proofs.lemmas.Bool.{leb-true, and_parts}
 use Rattle.file_model.specs.declared.fields.PatchField.{PatchField}

@@ -1,5 +1,5 @@
 -- A fault of the index is the file's.
-use Rattle.std.proofs.Common.{◌≡◌, ℕ, List, Option, Some, None, Err, refl}
+use Rattle.std.proofs.Common.{ℕ, List, Option, Some, None, Err, refl}
 use Rattle.std.specs.Prelude.{IfSome}
 use Rattle.file_model.specs.declared.refusals.ReadRefusal.{ReadRefusal}
 use Rattle.file_model.specs.declared.refusals.ReadRefusal.TheVariants as reads

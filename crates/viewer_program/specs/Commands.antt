@@ -1,5 +1,5 @@
 -- What the words ask for.
-use Rattle.std.specs.Prelude.{ℕ, Bool, ◌==◌, List, [], ◌∷◌, length, Option, Some, None, option_map, ℤ, codes, bytes_eq, if◌then◌else◌}
+use Rattle.std.specs.Prelude.{ℕ, ◌==◌, List, [], ◌∷◌, length, Option, Some, None, option_map, ℤ, codes, bytes_eq, if◌then◌else◌}
 use Rattle.grid_vertex.specs.declared.points.Point.{Point}
 use Rattle.number_words.specs.Numbers.{number_in, signed_in}
 use Rattle.error_metric.specs.Views.{ViewSeen, view_of}
