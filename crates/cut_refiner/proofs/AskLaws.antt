@@ -100,9 +100,6 @@ owing r patch e = back_from r.owed (stand_of r).at patch e
 abbrev pub seen_as : Rules → List Try → List ℕ → Refining
 seen_as rules tries owed = record { rules = rules; tries = tries; owed = owed }
 
-pub through_at_none : (rules : Rules) (tries : List Try) (course : Course) (granted : ℕ) → IsAt rules tries course granted None → (round_of rules (epochs_of tries)).at ≡ None
-through_at_none rules tries course granted at = ap (λ (s : Stand). s.at) at.stand
-
 pub whole_of : (rules : Rules) (tries : List Try) (course : Course) (granted : ℕ) → IsAt rules tries course granted None → IsWhole (round_of rules (epochs_of tries))
 whole_of rules tries course granted at = record { through = ap (λ (s : Stand). s.at) at.stand; used = ap (λ (s : Stand). s.unused) at.stand }
 
@@ -118,11 +115,6 @@ hand_is hand other e = cc
 
 pub same_hand : (rules : Rules) (tries : List Try) (course : Course) (node granted : ℕ) (trying : IsTrying rules tries course node granted) (hand : Hand) → (round_of rules (epochs_of tries)).at ≡ Some hand → hand ≡ trying.hand
 same_hand rules tries course node granted trying hand stands = hand_is hand trying.hand (sym stands ∙ ap (λ (s : Stand). s.at) trying.stand)
-
--- the round's tries are the answers so far
-pub tries_at : (rules : Rules) (tries : List Try) (course : Course) (granted : ℕ) (hand : Option ℕ) → IsAt rules tries course granted hand → tries ≡ (round_of rules (epochs_of tries)).tries
-tries_at rules tries course granted None at = sym (ap (λ (s : Stand). s.tries) at.stand)
-tries_at rules tries course granted (Some hand) at = sym (ap (λ (s : Stand). s.tries) at.stand)
 
 pub set_at : (rules : Rules) (tries : List Try) (course : Course) (granted : ℕ) (hand : Option ℕ) → IsAt rules tries course granted hand → (round_of rules (epochs_of tries)).set ≡ course.front.in_cut.items
 set_at rules tries course granted None at = ap (λ (s : Stand). s.set) at.stand

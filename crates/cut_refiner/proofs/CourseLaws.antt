@@ -26,9 +26,6 @@ pub record IsLeft (rules : Rules) (rest : List ℕ) (course : Course) : Type 0 w
   pub are_passed : ArePassed rules course.front.in_cut.items passed
   pub going : IsGoing rules later course
 
-pub left_at_start : (rules : Rules) (rest : List ℕ) (course : Course) → IsGoing rules rest course → IsLeft rules rest course
-left_at_start rules rest course going = record { passed = []; later = rest; split = refl; are_passed = tt; going = going }
-
 passed_both : (P : ℕ → Type 0) (us vs : List ℕ) → AllByRecursion P us → AllByRecursion P vs → AllByRecursion P (us ++ vs)
 passed_both P [] vs h k = k
 passed_both P (u ∷ us) vs h k = (h.0, passed_both P us vs h.1 k)

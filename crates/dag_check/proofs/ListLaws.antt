@@ -1,5 +1,5 @@
--- What stands in a list with one element set, or one more.
-use Rattle.std.specs.Prelude.{◌≡◌, ◌≢◌, ◌⊎◌, ℕ, zero, suc, ◌<◌, List, [], ◌∷◌, ◌++◌, length, slice_get, Some, refl}
+-- What stands in a list with one element set.
+use Rattle.std.specs.Prelude.{◌≡◌, ◌≢◌, ◌⊎◌, ℕ, zero, suc, ◌<◌, List, [], ◌∷◌, length, slice_get, Some, refl}
 use Rattle.std.proofs.Common.{inl, inr, set, ap, arith}
 
 -- what stands in a list with one element set
@@ -10,13 +10,6 @@ set_read (z ∷ zs) zero (suc v) x y e = inr (omega arith, e)
 set_read (z ∷ zs) (suc i) zero x y e = inr (omega arith, e)
 set_read (z ∷ zs) (suc i) (suc v) x y e =
     elim (set_read zs i v x y e) [ inl h ↦ inl (ap (λ n. suc n) h.0, h.1) | inr h ↦ inr (λ same. h.0 (omega arith), h.1) ]
-
--- what stands in a list with one element more
-pub push_read : {X : Type 0} → (xs : List X) (v : ℕ) (x y : X) → slice_get (xs ++ y ∷ []) v ≡ Some x → (slice_get xs v ≡ Some x) ⊎ (x ≡ y)
-push_read [] zero x y e = inr cc
-push_read [] (suc v) x y e = absurd cc
-push_read (z ∷ zs) zero x y e = inl e
-push_read (z ∷ zs) (suc v) x y e = push_read zs v x y e
 
 pub slice_get-set_same : {X : Type 0} → (xs : List X) (i : ℕ) (y : X) → i < length xs → slice_get (set xs i y) i ≡ Some y
 slice_get-set_same [] i y low = absurd (omega arith)

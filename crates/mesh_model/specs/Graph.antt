@@ -56,7 +56,3 @@ abbrev pub only_root : List ℕ → Result ℕ DagFault
 only_root [] = Err NoRoot
 only_root (a ∷ []) = Ok a
 only_root (a ∷ b ∷ others) = Err (TwoRoots a b)
-
--- the root of a graph of n nodes, or the fault where it has none or several
-abbrev pub root_of_graph : ℕ → List PatchField → Result ℕ DagFault
-root_of_graph n fields = only_root (roots n fields)

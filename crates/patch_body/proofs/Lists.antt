@@ -1,5 +1,5 @@
 -- A body of which reading finds no fault.
-use Rattle.std.proofs.Common.{◌≡◌, ℕ, ◌+◌, List, length, drop, Some, None, Result, Ok, Err, refl, sym, ◌∙◌}
+use Rattle.std.proofs.Common.{◌≡◌, ℕ, ◌+◌, List, length, drop, None, Result, Ok, Err, refl, sym, ◌∙◌}
 use Rattle.grid_vertex.specs.declared.points.Point.{Point}
 use Rattle.file_model.specs.declared.faults.FileFault.{FileFault}
 use Rattle.file_model.specs.declared.fields.PatchField.{PatchField}
@@ -17,16 +17,6 @@ lists_from points corners = Ok (record { points = points; corners = corners.0 })
 fault-lists : (points : List Point) (read : Result (List Corners × List ℕ) FileFault) → fault_of (read >>= lists_from points) ≡ fault_of read
 fault-lists points (Ok corners) = refl
 fault-lists points (Err fault) = refl
-
--- a fault of the points is the body's
-pub points_fault : (version patch : ℕ) (f : PatchField) (offset : ℕ) (bytes : List ℕ) (fault : FileFault)
-    → Some fault ≡ fault_of (points_at version f.points patch (offset + length bytes) bytes) → Some fault ≡ fault_of (body_in version patch f offset bytes)
-unfolding body_in
-points_fault version patch f offset bytes fault h = by_read (points_at version f.points patch (offset + length bytes) bytes) _ h
-  where
-    by_read : (read : Result (List Point × List ℕ) FileFault) (next : List Point × List ℕ → Result BodyLists FileFault) → Some fault ≡ fault_of read → Some fault ≡ fault_of (read >>= next)
-    by_read (Ok points) next e = absurd cc
-    by_read (Err found) next e = e
 
 -- where the points have none, the body's is that of the triangles
 pub body_fault : (version patch : ℕ) (f : PatchField) (offset : ℕ) (bytes : List ℕ) → let end = offset + length bytes in

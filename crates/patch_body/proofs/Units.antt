@@ -28,10 +28,6 @@ pub first_none : {A B : Type 0} (read : Result A FileFault) (f : A → Result B 
 first_none (Ok x) f h = refl
 first_none (Err fault) f h = absurd cc
 
-pub ok_from_none : {A : Type 0} (read : Result A FileFault) → fault_of read ≡ None → (x : A) × (read ≡ Ok x)
-ok_from_none (Ok x) h = (x, refl)
-ok_from_none (Err fault) h = absurd cc
-
 pub err_from_some : {A : Type 0} (read : Result A FileFault) (fault : FileFault) → fault_of read ≡ Some fault → read ≡ Err fault
 err_from_some (Ok x) fault h = absurd cc
 err_from_some (Err e) fault h = cc

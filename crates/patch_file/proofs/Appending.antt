@@ -3,7 +3,7 @@ use Rattle.std.proofs.Common.{◌≡◌, ℕ, ◌+◌, ◌-◌, ◌<◌, List, [
 use Rattle.std.specs.Prelude.{IsErr}
 use Rattle.std.specs.List.{flat_map, AllByRecursion}
 use Rattle.std.proofs.Math.Seq.{take-add}
-use Rattle.std.proofs.lemmas.List.{append-nil, take_rest, take_more, drop_more, take-append-drop}
+use Rattle.std.proofs.lemmas.List.{take_rest, drop_more, take-append-drop}
 use Rattle.std.proofs.lemmas.List.Concat.{flat_map-append, flat_map-cons}
 use Rattle.std.proofs.lemmas.List.Elements.{recursion_from_All}
 use Rattle.file_model.specs.declared.fields.Node.{Node}
@@ -26,13 +26,6 @@ bytes_more before between after bytes i n wrote writes =
 flat_map-split : {X : Type 0} (text : X → List ℕ) (xs : List X) (i : ℕ) (d : X) → i < length xs → flat_map text xs ≡ flat_map text (take i xs) ++ (text (get_or xs i d) ++ flat_map text (drop (i + 1) xs))
 flat_map-split text xs i d lt =
     ap (flat_map text) (sym (take-append-drop i xs) ∙ ap (λ ys. take i xs ++ ys) (drop_more xs i d lt)) ∙ flat_map-append text (take i xs) (get_or xs i d ∷ drop (i + 1) xs) ∙ ap (λ t. flat_map text (take i xs) ++ t) (flat_map-cons text (get_or xs i d) (drop (i + 1) xs))
-
--- the text of an item more
-pub item_more : {X : Type 0} (text : X → List ℕ) (xs : List X) (i : ℕ) (d : X) (before between after : Option (List ℕ)) → i < length xs → between ≡ appended before (flat_map text (take i xs)) → after ≡ appended between (text (get_or xs i d)) → after ≡ appended before (flat_map text (take (i + 1) xs))
-item_more text xs i d before between after lt wrote writes =
-    let item = get_or xs i d in
-    let whole : flat_map text (take (i + 1) xs) ≡ flat_map text (take i xs) ++ text item = ap (flat_map text) (take_more xs i d lt) ∙ flat_map-append text (take i xs) (item ∷ []) ∙ ap (λ t. flat_map text (take i xs) ++ t) (flat_map-cons text item [] ∙ append-nil (text item)) in
-    appended-after before between after (flat_map text (take i xs)) (text item) wrote writes ∙ ap (appended before) (sym whole)
 
 -- the writer failed in the text of an item
 pub item_part : {X : Type 0} (text : X → List ℕ) (xs : List X) (i : ℕ) (d : X) (before between after : Option (List ℕ)) (item : List ℕ) → i < length xs → item ≡ text (get_or xs i d) → between ≡ appended before (flat_map text (take i xs)) → WritesPart between after item → WritesPart before after (flat_map text xs)

@@ -41,9 +41,6 @@ is_total a b c x y z apart =
       ]
     ]
 
-abbrev ComesBefore : Rules → ℕ → ℕ → Type 0
-ComesBefore rules u v = IsBefore (score rules u) (level rules u) u (score rules v) (level rules v) v
-
 pub decides_before : (rules : Rules) (u v : ℕ) → Decides (comes_before rules u v) ((score rules v < score rules u) ⊎ ((score rules u ≡ score rules v) × ((level rules u < level rules v) ⊎ ((level rules u ≡ level rules v) × (u < v)))))
 decides_before rules u v =
     let by_number = Decides-and (eqb (level rules u) (level rules v)) (ltb u v) (Decides-eqb (level rules u) (level rules v)) (Decides-ltb u v) in

@@ -66,17 +66,6 @@ loose_up ranks old new a q step parent loose = record { behind = behind; across 
         (behind_trans old.end ranks _ _ _ up (loose.behind q c qc' q_a c_a)))
         (cases_eq c a)
 
--- an id at the first place, or behind its parent, has gone up far enough
-pub loose_below : (ranks : List (Option ℕ)) (heap : EndHeap) (a : ℕ) → IsLoose ranks heap a → ((p : ℕ) → IsParent heap p a → IsBehind ranks heap a p) → IsLooseBelow ranks heap a
-loose_below ranks heap a loose up =
-    record {
-      behind = λ p c pc p_a. ⊎_elim
-          (λ (c_a : c ≡ a). subst (λ (k : ℕ). IsBehind ranks heap k p) (sym c_a) (up p (subst (λ (k : ℕ). IsParent heap p k) c_a pc)))
-          (λ (c_a : c ≢ a). loose.behind p c pc p_a c_a)
-          (cases_eq c a);
-      across = loose.across;
-    }
-
 -- the id at a place has gone down to the child that comes first
 pub loose_down : (ranks : List (Option ℕ)) (old new : EndHeap) (a d : ℕ) → IsStep old new a d → Leads ranks old a d → IsLooseBelow ranks old a → IsLooseBelow ranks new d
 loose_down ranks old new a d step leads loose = record { behind = behind; across = across }
@@ -110,16 +99,6 @@ loose_down ranks old new a d step leads loose = record { behind = behind; across
         let c_a : c ≢ a = omega (arith, dc'.first, leads.is_first.parent.first) in
         let c_d : c ≢ d = omega (arith, dc'.first) in
         behind_moved ranks old new c p c d step.end (step.order.2 c c_a c_d) (ap (id_at new) p_a ∙ step.order.0) (loose.behind d c dc' d_a)
-
--- an id of which no child comes before it has gone down far enough
-pub ordered_at : (ranks : List (Option ℕ)) (heap : EndHeap) (a : ℕ) → IsLooseBelow ranks heap a → ((c : ℕ) → IsParent heap a c → IsBehind ranks heap c a) → IsOrdered ranks heap
-ordered_at ranks heap a loose down =
-    record {
-      behind = λ p c pc. ⊎_elim
-          (λ (p_a : p ≡ a). subst (λ (k : ℕ). IsBehind ranks heap c k) (sym p_a) (down c (subst (λ (k : ℕ). IsParent heap k c) p_a pc)))
-          (λ (p_a : p ≢ a). loose.behind p c pc p_a)
-          (cases_eq p a);
-    }
 
 first_upto : (ranks : List (Option ℕ)) (heap : EndHeap) → IsOrdered ranks heap → (n k : ℕ) → k ≤ n → k < heap.count → IsBehind ranks heap k 0
 first_upto ranks heap ordered zero k le k_in =

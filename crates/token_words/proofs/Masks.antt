@@ -5,7 +5,7 @@ use Rattle.std.specs.Int.{bit_at, bit_not}
 use Rattle.std.specs.Int.Count.{ones, ones_in}
 use Rattle.std.proofs.Math.Nat.{mod-eq_of_lt}
 use Rattle.std.proofs.lemmas.Nat.{mod-pow-add, ones_cat, mod_below, pow_pos}
-use Rattle.std.proofs.lemmas.Nat.Bits.{bit_at_set_same, bit_at_set_other, bit_at_clear_same, bit_at_clear_other, bit_at_and, bit_at_above, bit_at-lt, bit_at-zero}
+use Rattle.std.proofs.lemmas.Nat.Bits.{bit_at_set_same, bit_at_set_other, bit_at_clear_same, bit_at_clear_other, bit_at_and, bit_at_above, bit_at-lt}
 use Rattle.std.proofs.lemmas.Bool.Decides.{leb_tells}
 use Rattle.token_words.specs.Changes.{SetAt}
 use Rattle.token_words.specs.Sessions.{IsSession, has_session, count_to, session_count}
@@ -63,11 +63,6 @@ has_session-without mask (suc bit) fits is =
       here = ap (λ b. b == 1) (bit_at_clear_same w64 mask bit within);
       others = without_bit-others mask bit fits within;
     })
-
--- an empty mask has no session
-pub has_session-zero : (s : ℕ) → has_session 0 s ≡ false
-has_session-zero zero = refl
-has_session-zero (suc bit) = ap (λ b. b == 1) (bit_at-zero bit)
 
 -- one digit counts one where it is set
 count_ones-digit : (b : ℕ) → b < 2 → count_ones b ≡ (if b == 1 then 1 else 0)
