@@ -1,0 +1,4 @@
+pub mod FrameTexts
+pub mod Meshes
+pub mod Rounds
+pub mod Texts

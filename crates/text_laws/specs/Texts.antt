@@ -1,0 +1,52 @@
+-- A cut has one still frame for its tries. So the base has one text, and a view has one.
+use Rattle.std.proofs.Common.{◌≡◌, ℕ, Bool, List, sym, ap, subst, ◌∙◌}
+use Rattle.file_model.specs.Lists.{FileLists}
+use Rattle.mesh_model.specs.Frames.{root_alone}
+use Rattle.mesh_model.specs.Meshes.{MeshLists}
+use Rattle.text_model.specs.FrameText.{Frame, IsFrameText}
+use Rattle.round_model.specs.Rounds.{Stand, has, round_of}
+use Rattle.error_metric.specs.Views.{ViewSeen}
+use Rattle.still_texts.specs.Shown.{ShowsCut, IsStill, IsBaseText}
+use Rattle.still_texts.specs.Full.{view_rules, IsGranted, IsFullText}
+use Rattle.text_laws.specs.FrameTexts.{frame_text_is_one}
+use Rattle.text_laws.specs.Meshes.{mesh_is_one}
+use Rattle.text_laws.specs.Rounds.{granted_is_one}
+
+-- ---- frames
+
+frame_is_one : (file : FileLists) (root : ℕ) (in_set : ℕ → Bool) (frame other : Frame) → IsStill frame → IsStill other → ShowsCut file root in_set frame → ShowsCut file root in_set other → frame.tries ≡ other.tries → frame ≡ other
+frame_is_one file root in_set frame other still other_still shows other_shows tries =
+    let session = still.session ∙ sym other_still.session in
+    let number = still.number ∙ sym other_still.number in
+    let cut = shows.nodes ∙ sym other_shows.nodes in
+    let patches = shows.patches ∙ sym other_shows.patches in
+    let triangles = shows.triangles ∙ sym other_shows.triangles in
+    λ i. record { session = session i; number = number i; cut = cut i; tries = tries i; patches = patches i; triangles = triangles i }
+
+text_of_one : (frame other : Frame) (text other_text : List ℕ) → frame ≡ other → IsFrameText frame text → IsFrameText other other_text → text ≡ other_text
+text_of_one frame other text other_text same h k = frame_text_is_one other text other_text (subst (λ (f : Frame). IsFrameText f text) same h) k
+
+-- ---- the base
+
+pub base_text_is_one : (file : FileLists) (root : ℕ) (text other : List ℕ) → IsBaseText file root text → IsBaseText file root other → text ≡ other
+base_text_is_one file root text other h k =
+    text_of_one h.frame k.frame text other (frame_is_one file root (root_alone root) h.frame k.frame h.still k.still h.shows k.shows (h.untried ∙ sym k.untried)) h.is k.is
+
+-- ---- a view
+
+-- where the round of a view stands
+abbrev stand_of : ViewSeen → MeshLists → List ℕ → Stand
+stand_of view mesh epochs = round_of (view_rules view mesh) epochs
+
+stand_is_one : (view : ViewSeen) (mesh other : MeshLists) (epochs others : List ℕ) → mesh ≡ other → IsGranted (view_rules view mesh) epochs → IsGranted (view_rules view other) others → stand_of view mesh epochs ≡ stand_of view other others
+stand_is_one view mesh other epochs others same h k =
+    let one = granted_is_one (view_rules view other) epochs others (subst (λ (m : MeshLists). IsGranted (view_rules view m) epochs) same h) k in
+    λ i. stand_of view (same i) (one i)
+
+pub full_text_is_one : (view : ViewSeen) (file : FileLists) (root : ℕ) (text other : List ℕ) → IsFullText view file root text → IsFullText view file root other → text ≡ other
+full_text_is_one view file root text other h k =
+    let mesh = mesh_is_one h.mesh k.mesh h.is_mesh k.is_mesh (h.of_file ∙ sym k.of_file) (h.from_root ∙ sym k.from_root) in
+    let stand = stand_is_one view h.mesh k.mesh h.epochs k.epochs mesh h.granted k.granted in
+    let shows = subst (λ (s : Stand). ShowsCut file root (has s.set) h.frame) stand h.shows in
+    let tries = h.tries ∙ ap (λ (s : Stand). s.tries) stand ∙ sym k.tries in
+    text_of_one h.frame k.frame text other (frame_is_one file root (has (stand_of view k.mesh k.epochs).set) h.frame k.frame h.still k.still shows k.shows tries) h.is k.is

@@ -1,0 +1,39 @@
+//! The laws of texts: the definitions of what the commands write leave no freedom, so that each command has
+//! one text.
+//!
+//! Code is only the laws' names, on functions that do nothing. The lemmas that lead to them stand in
+//! `specs/`.
+#![tactic(auto)]
+
+ghost use Rattle.std.specs.Prelude.{◌≡◌, ℕ, List};
+ghost use Rattle.file_model.specs.Lists.{FileLists};
+ghost use Rattle.mesh_model.specs.Meshes.{MeshLists, IsMesh};
+ghost use Rattle.text_model.specs.FrameText.{Frame, IsFrameText};
+ghost use Rattle.text_model.specs.AcceptedText.{IsAcceptedText};
+ghost use Rattle.round_model.specs.Order.{Rules};
+ghost use Rattle.error_metric.specs.Views.{ViewSeen};
+ghost use Rattle.still_texts.specs.Shown.{IsBaseText};
+ghost use Rattle.still_texts.specs.Full.{IsGranted, IsFullText};
+
+/// The line of an accepted file is one.
+pub fn an_accepted_file_has_one_line()
+    ensures { (file : FileLists) (root : ℕ) (text other : List ℕ) → IsAcceptedText file root text → IsAcceptedText file root other → text ≡ other }
+{}
+
+/// A frame has one text.
+pub fn a_frame_has_one_text()
+    ensures { (frame : Frame) (text other : List ℕ) → IsFrameText frame text → IsFrameText frame other → text ≡ other }
+{}
+
+/// The text of the base is one.
+pub fn a_base_has_one_text()
+    ensures { (file : FileLists) (root : ℕ) (text other : List ℕ) → IsBaseText file root text → IsBaseText file root other → text ≡ other }
+{}
+
+/// The text of a view's whole round is one: one list of epochs that are all 1 makes a round whole, and an
+/// accepted mesh has its levels from its nodes and patches.
+pub fn a_view_has_one_text()
+    ensures rounds { (rules : Rules) (epochs others : List ℕ) → IsGranted rules epochs → IsGranted rules others → epochs ≡ others }
+    ensures meshes { (mesh other : MeshLists) → IsMesh mesh → IsMesh other → mesh.index ≡ other.index → mesh.root ≡ other.root → mesh ≡ other }
+    ensures texts { (view : ViewSeen) (file : FileLists) (root : ℕ) (text other : List ℕ) → IsFullText view file root text → IsFullText view file root other → text ≡ other }
+{}
