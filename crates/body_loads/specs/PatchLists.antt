@@ -6,6 +6,7 @@ use Rattle.file_model.specs.declared.fields.PatchField.{PatchField}
 use Rattle.file_model.specs.Lists.{IndexLists}
 use Rattle.file_model.specs.Rules.{IsIndex}
 use Rattle.mesh_model.specs.Graph.{patches_from, patches_where}
+use Rattle.mesh_model.specs.Chosen.{chosen_few}
 
 -- each number of the list is below the end
 abbrev AreBelow : ℕ → List ℕ → Type 0
@@ -21,22 +22,9 @@ unfolding patches_from
 below_from test first end [] most k d within = absurd (omega arith)
 below_from test first end (f ∷ fields) most k d within = below_by (test f) first end (patches_from (first + 1) test fields) (omega arith) (below_from test (first + 1) end fields (omega arith)) k d within
 
-few_by : (passes : Bool) (first most : ℕ) (patches : List ℕ) → length patches ≤ most → length (if passes then first ∷ patches else patches) ≤ suc most
-few_by true first most patches few = omega arith
-few_by false first most patches few = omega arith
-
-few_from : (test : PatchField → Bool) (first : ℕ) (fields : List PatchField) → length (patches_from first test fields) ≤ length fields
-unfolding patches_from
-few_from test first [] = omega arith
-few_from test first (f ∷ fields) = few_by (test f) first (length fields) (patches_from (first + 1) test fields) (few_from test (first + 1) fields)
-
 -- each chosen patch is one of the fields'
 pub chosen_below : (test : PatchField → Bool) (fields : List PatchField) (k d : ℕ) → k < length (patches_where test fields) → slice_index_or (patches_where test fields) k d < length fields
 chosen_below test fields = below_from test 0 (length fields) fields (omega arith)
-
--- no more are chosen than there are
-pub chosen_few : (test : PatchField → Bool) (fields : List PatchField) → length (patches_where test fields) ≤ length fields
-chosen_few test fields = few_from test 0 fields
 
 -- an index has no more patches than a file may have
 pub chosen_within : (test : PatchField → Bool) (index : IndexLists) → IsIndex index → length (patches_where test index.fields) ≤ 65536

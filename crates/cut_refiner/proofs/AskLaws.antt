@@ -6,6 +6,7 @@ use Rattle.round_model.specs.declared.asks.Ask.TheVariants.{Lock, GiveBack, Done
 use Rattle.round_model.specs.Order.{Rules}
 use Rattle.round_model.specs.Rounds.{Hand, Stand, round_of, epochs_of, IsWhole}
 use Rattle.round_model.specs.Refiners.{Refining, stand_of, next_try, next_ask, asked}
+use Rattle.round_laws.specs.Epochs.{hand_is}
 use Rattle.cut_refiner.specs.declared.courses.Course.{Course}
 use Rattle.cut_refiner.specs.Refiners.{IsTrying, IsAt}
 
@@ -109,9 +110,6 @@ none_in_hand rules tries course granted (Some hand) at through = absurd (let sta
 
 pub not_both : (rules : Rules) (tries : List Try) (course : Course) (granted : ℕ) (hand : Hand) → IsAt rules tries course granted None → (round_of rules (epochs_of tries)).at ≡ Some hand → ⊥
 not_both rules tries course granted hand at stands = let through = ap (λ (s : Stand). s.at) at.stand in cc
-
-hand_is : (hand other : Hand) → Some hand ≡ Some other → hand ≡ other
-hand_is hand other e = cc
 
 pub same_hand : (rules : Rules) (tries : List Try) (course : Course) (node granted : ℕ) (trying : IsTrying rules tries course node granted) (hand : Hand) → (round_of rules (epochs_of tries)).at ≡ Some hand → hand ≡ trying.hand
 same_hand rules tries course node granted trying hand stands = hand_is hand trying.hand (sym stands ∙ ap (λ (s : Stand). s.at) trying.stand)

@@ -15,8 +15,6 @@ use Rattle.mesh_model.specs.Meshes.{MeshLists}
 use Rattle.round_model.specs.Order.{Rules}
 use Rattle.round_model.specs.Rounds.{has, with_member, frame_size}
 use Rattle.round_laws.specs.Members.{as_many_members}
-use Rattle.frame_laws.specs.Each.{each_at}
-use Rattle.frame_laws.specs.Ends.{HasEnds, each_has_ends}
 use Rattle.cut_refiner.specs.declared.courses.Course.{Course}
 use Rattle.cut_refiner.specs.RoundRules.{AreRules}
 use Rattle.cut_refiner.specs.Fronts.{heads_at, missing_of, IsFront, IsGrowing}
@@ -84,10 +82,6 @@ joined rules are rest course new v can set_is size_is releasing waiting room =
       gone = can.going.gone;
       order = can.going.order;
     }
-
--- the head of a patch is a node
-pub head_is_node : (rules : Rules) → AreRules rules → (p : ℕ) (f : PatchField) → slice_get rules.mesh.index.fields p ≡ Some f → f.head < length rules.mesh.index.nodes
-head_is_node rules are p f here = (each_at (HasEnds (length rules.mesh.index.nodes)) rules.mesh.index.fields p f here (each_has_ends rules.mesh.index are.mesh.rules)).head
 
 -- ---- what the code reads of a patch
 

@@ -17,7 +17,7 @@ use Rattle.cut_refiner.specs.declared.cut_lists.CutLists.{CutLists}
 use Rattle.cut_refiner.specs.RoundRules.{AreRules}
 use Rattle.cut_refiner.specs.Hands.{AreLists, AreListsOf}
 use Rattle.cut_refiner.specs.Refiners.{IsAt}
-use Rattle.cut_refiner.proofs.PatchLaws.{few_patches}
+use Rattle.mesh_model.specs.Chosen.{chosen_few}
 use Rattle.cut_refiner.proofs.FrontLaws.{few_nodes, few_fields}
 use Rattle.cut_refiner.proofs.ListingLaws.{few_numbers}
 use Rattle.cut_refiner.proofs.AskLaws.{seen_as, done, none_in_hand, set_at}
@@ -52,7 +52,7 @@ module _ (rules : Rules) (tries : List Try) (owed : List ℕ) (course : Course) 
   nodes_few = omega (arith, ap length lists_are.nodes_are, few_numbers (has course.front.in_cut.items) (length rules.mesh.index.nodes) 0, few_nodes rules.mesh are.mesh)
 
   pub patches_few : length lists.patches.items ≤ 65536
-  patches_few = omega (arith, ap length lists_are.patches_are, few_patches (leads_out (has course.front.in_cut.items)) rules.mesh.index.fields, few_fields rules.mesh are.mesh)
+  patches_few = omega (arith, ap length lists_are.patches_are, chosen_few (leads_out (has course.front.in_cut.items)) rules.mesh.index.fields, few_fields rules.mesh are.mesh)
 
 -- whatever the tries were
 module _ (rules : Rules) (tries : List Try) (owed : List ℕ) (seen : Refining) (same : seen_as rules tries owed ≡ seen) (are : AreRules rules) where

@@ -51,12 +51,13 @@ among_order rules v node =
       | inr outer ↦ false_from_ne_true (is_among (node_order rules) v) (λ there. let inner = (inner_of_order rules v there).inner in absurd (cc)) ∙ sym outer
     ]
 
-head_in : (rules : Rules) → AreRules rules → (p : ℕ) (f : PatchField) → slice_get rules.mesh.index.fields p ≡ Some f → f.head < length rules.mesh.index.nodes
-head_in rules are p f here = (each_at (HasEnds (length rules.mesh.index.nodes)) rules.mesh.index.fields p f here (each_has_ends rules.mesh.index are.mesh.rules)).head
+-- the head of a patch is a node
+pub head_is_node : (rules : Rules) → AreRules rules → (p : ℕ) (f : PatchField) → slice_get rules.mesh.index.fields p ≡ Some f → f.head < length rules.mesh.index.nodes
+head_is_node rules are p f here = (each_at (HasEnds (length rules.mesh.index.nodes)) rules.mesh.index.fields p f here (each_has_ends rules.mesh.index are.mesh.rules)).head
 
 -- a child that is no sink stands in the order
 child_in_order : (rules : Rules) → AreRules rules → (p : ℕ) (f : PatchField) → slice_get rules.mesh.index.fields p ≡ Some f → is_among (node_order rules) f.head ≡ not (is_sink rules.mesh.index.fields f.head)
-child_in_order rules are p f here = among_order rules f.head (head_in rules are p f here) ∙ inner_of_arc rules.mesh.index.fields p f here
+child_in_order rules are p f here = among_order rules f.head (head_is_node rules are p f here) ∙ inner_of_arc rules.mesh.index.fields p f here
 
 -- ---- a node of the order joins
 
@@ -71,7 +72,7 @@ module _ (rules : Rules) (are : AreRules rules) (gone rest : List ℕ) (v : ℕ)
   child_behind : (p : ℕ) (f : PatchField) → slice_get rules.mesh.index.fields p ≡ Some f → f.tail ≡ v → is_sink rules.mesh.index.fields f.head ≡ false → is_among rest f.head ≡ true
   child_behind p f here tail inner =
       let before = subst (λ (u : ℕ). comes_before rules u f.head ≡ true) tail (parent_before rules are.mesh are.falls p f here inner) in
-      let place = order_has rules f.head (record { node = head_in rules are p f here; inner = inner_of_arc rules.mesh.index.fields p f here ∙ not_from_false (is_sink rules.mesh.index.fields f.head) inner }) in
+      let place = order_has rules f.head (record { node = head_is_node rules are p f here; inner = inner_of_arc rules.mesh.index.fields p f here ∙ not_from_false (is_sink rules.mesh.index.fields f.head) inner }) in
       let at = ap (λ (vs : List ℕ). slice_get vs place.0) (sym order) ∙ place.1 in
       let behind = stands_behind rules v f.head gone rest ascends place.0 at before in
       among_at rest behind.0 f.head behind.1

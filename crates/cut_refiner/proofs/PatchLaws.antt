@@ -64,16 +64,6 @@ patches_in_range test fields =
     All-from_recursion (λ p. p < length fields) (patches_where test fields)
     (each_then (IsPassingPatch test fields) (λ p. p < length fields) (patches_where test fields) (λ p is. within_of fields p is.field is.there) (patches_pass test fields))
 
-few_from : (test : PatchField → Bool) (fs : List PatchField) (first : ℕ) → length (patches_from first test fs) ≤ length fs
-unfolding patches_from
-few_from test [] first = omega arith
-few_from test (f ∷ fs) first =
-    let rest = few_from test fs (first + 1) in
-    cond_both (test f) (first ∷ patches_from (first + 1) test fs) (patches_from (first + 1) test fs) (λ (ps : List ℕ). length ps ≤ suc (length fs)) (λ passes. omega arith) (λ fails. omega arith)
-
-pub few_patches : (test : PatchField → Bool) (fields : List PatchField) → length (patches_where test fields) ≤ length fields
-few_patches test fields = few_from test fields 0
-
 -- ---- sums term by term
 
 pub sums_add : {X : Type 0} (a b c d : X → ℕ) (xs : List X) → AllByRecursion (λ x. a x + b x ≡ c x + d x) xs → sum_by a xs + sum_by b xs ≡ sum_by c xs + sum_by d xs

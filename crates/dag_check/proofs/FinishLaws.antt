@@ -1,5 +1,5 @@
 -- What the graph and the nets say together, once all bodies were added.
-use Rattle.std.specs.Prelude.{Ok, Err, ◌≡◌, ℕ, zero, suc, ◌<◌, Bool, true, false, List, [], ◌∷◌, length, drop, slice_get, Option, Some, None, refl, if◌then◌else◌}
+use Rattle.std.specs.Prelude.{Ok, Err, ◌≡◌, ℕ, ◌<◌, Bool, true, false, List, length, drop, Option, Some, None, if◌then◌else◌}
 use Rattle.std.specs.Map.{keys_of}
 use Rattle.std.proofs.Common.{sym, ap, ◌∙◌, subst, arith}
 use Rattle.std.proofs.lemmas.List.{take_all, drop_all}
@@ -15,6 +15,7 @@ use Rattle.mesh_model.specs.Frames.{triangles_where}
 use Rattle.mesh_model.specs.Nets.{AreOpen, HasOpenPairs}
 use Rattle.mesh_model.specs.Accepted.{IsAccepted, IsNestedGraph, IsGraphFault, IsMeshFault, is_inner, triangles_out_of}
 use Rattle.mesh_graph.specs.Graphs.{IsVerdict}
+use Rattle.mesh_graph.specs.ListReads.{slice_get-there}
 use Rattle.edge_chain.specs.Chains.{IsNetOf}
 use Rattle.dag_check.specs.declared.tracks.Track.{Track}
 use Rattle.dag_check.specs.declared.gaps.Gap.{Gap}
@@ -42,11 +43,6 @@ verdict_err checker fault bodies is e = graph_fault (file_with checker.index bod
 pub verdict_ok : (checker : CheckerSeen) (root : ℕ) → IsChecker checker → checker.graph.verdict ≡ Ok root → IsNestedGraph checker.index root
 verdict_ok checker root is e = subst (IsVerdict checker.index) e is.graph.verdict_is
 
-there_is : {X : Type 0} → (xs : List X) (v : ℕ) → v < length xs → (x : X) × (slice_get xs v ≡ Some x)
-there_is [] v low = absurd (omega arith)
-there_is (x ∷ xs) zero low = (x, refl)
-there_is (x ∷ xs) (suc v) low = there_is xs v (omega arith)
-
 none_past : (test : PatchField → Bool) (n : ℕ) (fields : List PatchField) → n ≡ length fields → how_many test (drop n fields) ≡ 0
 unfolding how_many
 none_past test n fields e = ap (λ (fs : List PatchField). how_many test fs) (drop_all n fields (omega arith))
@@ -58,7 +54,7 @@ nothing_left false left patches e d = e
 -- once all bodies were added, each node was compared
 all_compared : (index : IndexLists) (n : ℕ) (tally : TallySeen) → n ≡ length index.fields → IsTally index (taken_both n) tally → (v : ℕ) → v < length index.nodes → IsCompared tally.tracks v
 all_compared index n tally e is v low =
-    let there = there_is tally.tracks v (omega (arith, is.as_many)) in
+    let there = slice_get-there tally.tracks v (omega (arith, is.as_many)) in
     record {
       track = there.0;
       there = there.1;

@@ -1,6 +1,5 @@
 -- What the rules of an index say of its patches and of its graph.
-use Rattle.std.specs.Prelude.{◌≡◌, ℕ, zero, suc, ◌<◌, ◌≤◌, Bool, true, List, [], ◌∷◌, length, slice_get, Some, nat_le, nat_lt}
-use Rattle.std.specs.List.{list_all}
+use Rattle.std.specs.Prelude.{◌≡◌, ℕ, ◌<◌, ◌≤◌, List, length, slice_get, Some, nat_le, nat_lt}
 use Rattle.std.proofs.Common.{sym, ap, ◌∙◌, subst, arith}
 use Rattle.std.proofs.lemmas.Bool.{and_parts, ltb-true, leb-true}
 use Rattle.std.proofs.lemmas.Option.{same_Some}
@@ -9,6 +8,7 @@ use Rattle.file_model.specs.declared.fields.PatchField.{PatchField}
 use Rattle.file_model.specs.Lists.{IndexLists}
 use Rattle.file_model.specs.Rules.{IsIndex, is_field, has_ends, has_counts}
 use Rattle.mesh_model.specs.Graph.{incoming, outgoing, leads_to, leads_from}
+use Rattle.mesh_graph.specs.NearGrid.{each_passes}
 use Rattle.mesh_graph.specs.Graphs.{GraphSeen, IsGraphOf, index_of}
 use Rattle.dag_check.specs.declared.sides.Side.TheVariants.{Incoming, Outgoing}
 use Rattle.dag_check.specs.Tracks.{how_many, is_on}
@@ -18,11 +18,6 @@ use Rattle.dag_check.proofs.CountLaws.{length-patches, how_many-le}
 pub record Ends (index : IndexLists) (f : PatchField) : Type 0 where
   pub tail : f.tail < length index.nodes
   pub head : f.head < length index.nodes
-
-each_passes : {X : Type 0} → (test : X → Bool) (xs : List X) (i : ℕ) (x : X) → list_all test xs ≡ true → slice_get xs i ≡ Some x → test x ≡ true
-each_passes test [] i x all there = absurd cc
-each_passes test (y ∷ ys) zero x all there = let same : y ≡ x = cc in subst (λ z. test z ≡ true) same (and_parts (test y) (list_all test ys) all).0
-each_passes test (y ∷ ys) (suc i) x all there = each_passes test ys i x (and_parts (test y) (list_all test ys) all).1 there
 
 pub ends_of : (index : IndexLists) (n : ℕ) (f : PatchField) → IsIndex index → slice_get index.fields n ≡ Some f → Ends index f
 ends_of index n f rules at =

@@ -13,7 +13,8 @@ use Rattle.dag_check.specs.Added.{file_with}
 use Rattle.dag_check.specs.Gaps.{lesser_gap, HasGap}
 use Rattle.dag_check.specs.Tracks.{node_at, Taken, taken_on, one_more, Takes, outer, more, last, IsTrack, TrackFollows}
 use Rattle.dag_check.specs.Tallies.{TallySeen, TakesAt, IsTally, IsCompared, TallyFollows}
-use Rattle.dag_check.proofs.ListLaws.{set_read, slice_get-set_same, slice_get-set_other}
+use Rattle.mesh_graph.specs.ListReads.{slice_get-set_same, slice_get-set_other}
+use Rattle.dag_check.proofs.ListLaws.{set_read}
 use Rattle.dag_check.proofs.TrackLaws.{other_node, own_node, IsDone, last_is}
 use Rattle.dag_check.proofs.FollowLaws.{IsNext, other_follows, own_follows, grown_follows, compared_nets}
 use Rattle.dag_check.proofs.GapLaws.{gap_stays, AddsNode, gap_more}

@@ -3,8 +3,8 @@ use Rattle.std.proofs.Common.{◌≡◌, ◌≢◌, ◌∙◌, sym, ap, subst, r
 use Rattle.std.specs.Prelude.{IsTrue, unsigned_abs, ◌≤◌}
 use Rattle.std.specs.declared.cmp.Ordering.{Ordering}
 use Rattle.std.specs.Ordering.{is_eq, is_lt, ordering_reverse}
-use Rattle.std.specs.Cmp.{Equal-is}
 use Rattle.std.specs.declared.cmp.Ordering.TheVariants.{Less, Equal, Greater}
+use Rattle.std.proofs.lemmas.Bool.{or_parts, false_from_ne_true}
 use Rattle.std.proofs.lemmas.Cmp.{tied_itself}
 use Rattle.std.proofs.lemmas.Int.{ints}
 use Rattle.grid_vertex.specs.declared.points.Point.{Point}
@@ -12,28 +12,13 @@ use Rattle.grid_vertex.specs.declared.triangles.Triangle.{Triangle}
 use Rattle.grid_vertex.specs.Points.{is_same_point}
 use Rattle.grid_vertex.specs.Triangles.{is_flat_triangle}
 use Rattle.mesh_model.specs.Nets.{one_if, is_edge, edge_times, times, net, Pair, is_before, is_forward}
+use Rattle.mesh_model.specs.Orders.{point_exact, before_one_way}
 use Rattle.edge_chain.specs.declared.edges.Edge.{Edge}
 use Rattle.edge_chain.specs.declared.edges.Side.{Side}
 use Rattle.edge_chain.specs.Orders.{point_cmp, point_cmp_total, point_cmp_exact, is_before_is, is_same_point_is, is_same_pair_is}
 use Rattle.edge_chain.specs.Edges.{side_of, edge_of, pair_of}
 use Rattle.edge_chain.specs.Sums.{is_at_edge}
 use Rattle.edge_chain.proofs.SumLaws.{edge_exact, at_itself}
-
-pub false_from : (b : Bool) → (b ≡ true → ⊥) → b ≡ false
-false_from true h = absurd (h refl)
-false_from false h = refl
-
-both_true : (a b : Bool) → (a && b) ≡ true → (a ≡ true) × (b ≡ true)
-both_true true true e = (refl, refl)
-both_true true false e = absurd cc
-both_true false b e = absurd cc
-
-one_false : (a b : Bool) → (a || b) ≡ false → (a ≡ false) × (b ≡ false)
-one_false false b e = (refl, e)
-one_false true b e = absurd cc
-
-point_exact : (p q : Point) → is_same_point p q ≡ true → p ≡ q
-point_exact p q e = point_cmp_exact p q ((Equal-is (point_cmp p q)).0 (sym (is_same_point_is p q) ∙ e))
 
 same_itself : (p : Point) → is_same_point p p ≡ true
 same_itself p = is_same_point_is p p ∙ ap is_eq (tied_itself point_cmp_total p)
@@ -53,14 +38,6 @@ back_before : (p q : Point) → p ≢ q → is_before p q ≡ false → is_befor
 back_before p q apart e =
     is_before_is q p ∙ ap is_lt (point_cmp_total.antisymm q p)
     ∙ by_order p q apart (point_cmp p q) refl (sym (is_before_is p q) ∙ e)
-
-not_both : (o : Ordering) → is_lt o ≡ true → is_lt (ordering_reverse o) ≡ true → ⊥
-not_both Less e f = absurd cc
-not_both Equal e f = absurd cc
-not_both Greater e f = absurd cc
-
-one_way : (p q : Point) → is_before p q ≡ true → is_before q p ≡ true → ⊥
-one_way p q e f = not_both (point_cmp p q) (sym (is_before_is p q) ∙ e) (ap is_lt (sym (point_cmp_total.antisymm q p)) ∙ sym (is_before_is q p) ∙ f)
 
 -- the edge of a side, by the test of its points
 ends : Bool → Point → Point → Edge
@@ -88,11 +65,11 @@ apart_ends false false p q r pq qr rp e = qr (ap (λ (x : Edge). x.a) e)
 -- two sides that meet at q
 apart_sides : (p q r : Point) → p ≢ q → q ≢ r → r ≢ p → is_at_edge (side_of p q).edge (side_of q r).edge ≡ false
 apart_sides p q r pq qr rp =
-    false_from _ (λ e. apart_ends (is_before p q) (is_before q r) p q r pq qr rp (sym (edge_is p q) ∙ edge_exact (side_of p q).edge (side_of q r).edge e ∙ edge_is q r))
+    false_from_ne_true _ (λ e. apart_ends (is_before p q) (is_before q r) p q r pq qr rp (sym (edge_is p q) ∙ edge_exact (side_of p q).edge (side_of q r).edge e ∙ edge_is q r))
 
 turned_apart : (d e : Edge) → is_at_edge d e ≡ false → is_at_edge e d ≡ false
 turned_apart d e h =
-    false_from (is_at_edge e d) (λ k. let here : is_at_edge d e ≡ true = ap (λ (x : Edge). is_at_edge d x) (edge_exact e d k) ∙ at_itself d in absurd cc)
+    false_from_ne_true (is_at_edge e d) (λ k. let here : is_at_edge d e ≡ true = ap (λ (x : Edge). is_at_edge d x) (edge_exact e d k) ∙ at_itself d in absurd cc)
 
 -- no two of three edges are one
 pub record AreDistinct (first second third : Edge) : Type 0 where
@@ -112,8 +89,8 @@ record HasCorners (t : Triangle) : Type 0 where
 corners : (t : Triangle) → is_flat_triangle t ≡ false → HasCorners t
 unfolding is_flat_triangle
 corners t e =
-    let last = one_false (is_same_point t.a t.b || is_same_point t.b t.c) (is_same_point t.c t.a) e in
-    let both = one_false (is_same_point t.a t.b) (is_same_point t.b t.c) last.0 in
+    let last = or_parts (is_same_point t.a t.b || is_same_point t.b t.c) (is_same_point t.c t.a) e in
+    let both = or_parts (is_same_point t.a t.b) (is_same_point t.b t.c) last.0 in
     record { ab = apart_from t.a t.b both.0; bc = apart_from t.b t.c both.1; ca = apart_from t.c t.a last.1 }
 
 pub sides_distinct : (t : Triangle) → is_flat_triangle t ≡ false → AreDistinct (side_of t.a t.b).edge (side_of t.b t.c).edge (side_of t.c t.a).edge
@@ -188,7 +165,7 @@ other_way_net false false e = refl
 no_back : (from to : Point) (p : Pair) → IsTrue (is_forward p) → is_before from to ≡ true → is_edge p.b p.a from to ≡ false
 no_back from to p forward e = and_no (is_same_point from p.b) (is_same_point to p.a) (λ x y.
     let there : is_before p.b p.a ≡ true = subst (λ (q : Point). is_before q p.a ≡ true) (point_exact from p.b x) (subst (λ (q : Point). is_before from q ≡ true) (point_exact to p.a y) e) in
-    one_way p.a p.b forward there)
+    before_one_way p.a p.b forward there)
 
 no_there : (from to : Point) (p : Pair) → IsTrue (is_forward p) → is_before from to ≡ false → is_edge p.a p.b from to ≡ false
 no_there from to p forward e = and_no (is_same_point from p.a) (is_same_point to p.b) (λ x y.

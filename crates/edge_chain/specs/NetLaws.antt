@@ -6,18 +6,14 @@ use Rattle.std.specs.declared.cmp.Ordering.TheVariants.{Less, Equal, Greater}
 use Rattle.std.specs.Ordering.{is_lt, ordering_reverse}
 use Rattle.std.specs.Map.{keys_of}
 use Rattle.std.proofs.lemmas.Int.{ints}
-use Rattle.std.proofs.lemmas.List.Sums.{sum_by-append}
 use Rattle.grid_vertex.specs.declared.points.Point.{Point}
 use Rattle.grid_vertex.specs.declared.triangles.Triangle.{Triangle}
-use Rattle.mesh_model.specs.Nets.{times, net, edge_times, Pair, is_before, is_forward, AreOpen, HaveOneNet}
+use Rattle.mesh_model.specs.Nets.{times, net, Pair, is_before, is_forward, AreOpen, HaveOneNet}
+use Rattle.mesh_model.specs.NetLaws.{times-append}
 use Rattle.edge_chain.specs.declared.differences.Difference.{Difference}
 use Rattle.edge_chain.specs.Chains.{held, Chain, HoldSame, Adds, IsNetOf, IsFirstDifference, IsFirstNetDifference}
 use Rattle.edge_chain.specs.Orders.{point_cmp, point_cmp_total, point_cmp_exact, is_before_is}
 use Rattle.edge_chain.specs.Entries.{entry_from_key, contains_key_from_held, entries_from_held}
-
-pub times-append : (first second : List Triangle) (a b : Point) → times (first ++ second) a b ≡ times first a b + times second a b
-unfolding times
-times-append first second a b = sum_by-append (edge_times a b) first second
 
 -- the net of two lists together is the sum of theirs
 pub net-append : (first second : List Triangle) (a b : Point) → net (first ++ second) a b ≡ net first a b +ℤ net second a b

@@ -4,13 +4,13 @@ use Rattle.std.proofs.Common.{◌≡◌, ℕ, ◌+◌, Bool, true, false, cond, 
 use Rattle.std.specs.Prelude.{pos, ◌+ℤ◌}
 use Rattle.std.specs.List.{AllByRecursion}
 use Rattle.std.proofs.lemmas.Int.{ints}
-use Rattle.std.proofs.lemmas.List.Sums.{sum_by-append}
 use Rattle.grid_vertex.specs.declared.points.Point.{Point}
 use Rattle.grid_vertex.specs.declared.triangles.Triangle.{Triangle}
 use Rattle.file_model.specs.declared.fields.PatchField.{PatchField}
 use Rattle.file_model.specs.Lists.{BodyLists, triangles_of}
 use Rattle.mesh_model.specs.Graph.{patches_from}
-use Rattle.mesh_model.specs.Nets.{one_if, edge_times, times, net}
+use Rattle.mesh_model.specs.Nets.{one_if, times, net}
+use Rattle.mesh_model.specs.NetLaws.{times-append}
 use Rattle.mesh_model.specs.Frames.{triangles_where}
 
 -- ---- tests that agree
@@ -43,14 +43,10 @@ triangles_none p (f ∷ fs) (b ∷ bs) h =
 abbrev pub Splits : (PatchField → Bool) → (PatchField → Bool) → (PatchField → Bool) → PatchField → Type 0
 Splits p q r f = one_if (p f) ≡ one_if (q f) + one_if (r f)
 
-times_of_both : (first second : List Triangle) (a b : Point) → times (first ++ second) a b ≡ times first a b + times second a b
-unfolding times
-times_of_both first second a b = sum_by-append (edge_times a b) first second
-
 times_step : (p q r : Bool) (ts ps qs rs : List Triangle) (a b : Point) → one_if p ≡ one_if q + one_if r → times ps a b ≡ times qs a b + times rs a b → times (cond p (ts ++ ps) ps) a b ≡ times (cond q (ts ++ qs) qs) a b + times (cond r (ts ++ rs) rs) a b
 times_step true true true ts ps qs rs a b h e = absurd (omega arith)
-times_step true true false ts ps qs rs a b h e = omega (arith, times_of_both ts ps a b, times_of_both ts qs a b)
-times_step true false true ts ps qs rs a b h e = omega (arith, times_of_both ts ps a b, times_of_both ts rs a b)
+times_step true true false ts ps qs rs a b h e = omega (arith, times-append ts ps a b, times-append ts qs a b)
+times_step true false true ts ps qs rs a b h e = omega (arith, times-append ts ps a b, times-append ts rs a b)
 times_step true false false ts ps qs rs a b h e = absurd (omega arith)
 times_step false true true ts ps qs rs a b h e = absurd (omega arith)
 times_step false true false ts ps qs rs a b h e = absurd (omega arith)
@@ -59,8 +55,8 @@ times_step false false false ts ps qs rs a b h e = e
 
 times_split : (p q r : PatchField → Bool) (fields : List PatchField) (bodies : List BodyLists) (a b : Point) → AllByRecursion (Splits p q r) fields → times (triangles_where p fields bodies) a b ≡ times (triangles_where q fields bodies) a b + times (triangles_where r fields bodies) a b
 unfolding triangles_where
-times_split p q r [] bodies a b h = times_of_both [] [] a b
-times_split p q r (f ∷ fs) [] a b h = times_of_both [] [] a b
+times_split p q r [] bodies a b h = times-append [] [] a b
+times_split p q r (f ∷ fs) [] a b h = times-append [] [] a b
 times_split p q r (f ∷ fs) (c ∷ cs) a b h =
     times_step (p f) (q f) (r f) (triangles_of c) (triangles_where p fs cs) (triangles_where q fs cs) (triangles_where r fs cs) a b h.0 (times_split p q r fs cs a b h.1)
 

@@ -1,5 +1,5 @@
 -- What the lists of patches of all nodes say.
-use Rattle.std.proofs.Common.{◌≡◌, ℕ, zero, suc, ◌+◌, ◌<◌, ◌≤◌, Bool, true, false, List, [], ◌∷◌, ◌++◌, Option, Some, None, length, get_or, take, drop, map, arith, sym, ◌∙◌, ap, subst, refl, if◌then◌else◌}
+use Rattle.std.proofs.Common.{◌≡◌, ℕ, zero, suc, ◌+◌, ◌<◌, ◌≤◌, true, false, List, [], ◌∷◌, ◌++◌, Option, Some, None, length, get_or, take, drop, map, arith, sym, ◌∙◌, ap, subst, refl}
 use Rattle.std.specs.List.{slice_get, Contains, range_with_len}
 use Rattle.std.specs.Prelude.{All, MatchOption, option_map, unwrap_or, is_some}
 use Rattle.std.proofs.lemmas.Bool.{eqb-true, eq-eqb}
@@ -8,7 +8,7 @@ use Rattle.std.proofs.lemmas.List.{take_more, map-append, append_assoc, get_or_a
 use Rattle.std.proofs.lemmas.List.FromFn.{length-range_with_len, get_or-range_with_len}
 use Rattle.std.proofs.lemmas.Option.{slice_get_within, slice_get-get_or}
 use Rattle.file_model.specs.declared.fields.PatchField.{PatchField}
-use Rattle.mesh_model.specs.Graph.{patches_from}
+use Rattle.mesh_model.specs.Chosen.{chosen_few}
 use Rattle.mesh_graph.specs.declared.sides.Side.{Side}
 use Rattle.mesh_graph.specs.declared.sides.Side.TheVariants.{Incoming, Outgoing}
 use Rattle.mesh_graph.specs.Sides.{node_on, touches, patches_at}
@@ -48,18 +48,9 @@ in_range side fields v k d k_in =
 pub list_in_range : (side : Side) (fields : List PatchField) (nodes : ℕ) (lists : List (List ℕ)) (v : ℕ) (ps : List ℕ) → AreArcs side fields nodes lists → v < nodes → slice_get lists v ≡ Some ps → All (λ p. p < length fields) ps
 list_in_range side fields nodes lists v ps arcs v_in is = rw (list_is side fields nodes lists v ps arcs v_in is) (in_range side fields v)
 
-few-by : (start : ℕ) (ps : List ℕ) (t : Bool) (n : ℕ) → length ps ≤ n → length (if t then start ∷ ps else ps) ≤ n + 1
-few-by start ps true n h = omega (arith, h)
-few-by start ps false n h = omega (arith, h)
-
-few_from : (test : PatchField → Bool) (fields : List PatchField) (start : ℕ) → length (patches_from start test fields) ≤ length fields
-unfolding patches_from
-few_from test [] start = omega arith
-few_from test (f ∷ fs) start = omega (arith, few-by start (patches_from (start + 1) test fs) (test f) (length fs) (few_from test fs (start + 1)))
-
 -- a node has no more patches than there are
 pub list_few : (side : Side) (fields : List PatchField) (nodes : ℕ) (lists : List (List ℕ)) (v : ℕ) (ps : List ℕ) → AreArcs side fields nodes lists → v < nodes → slice_get lists v ≡ Some ps → length ps ≤ length fields
-list_few side fields nodes lists v ps arcs v_in is = rw (list_is side fields nodes lists v ps arcs v_in is) (few_from (touches side v) fields 0)
+list_few side fields nodes lists v ps arcs v_in is = rw (list_is side fields nodes lists v ps arcs v_in is) (chosen_few (touches side v) fields)
 
 -- an incoming patch from a node without a level
 pub open_parent : (fields : List PatchField) (levels : List (Option ℕ)) (v p : ℕ) → Contains (patches_at Incoming fields v) p → IsOpen fields levels p → HasOpenParent fields levels v

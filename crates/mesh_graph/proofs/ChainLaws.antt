@@ -8,19 +8,8 @@ use Rattle.file_model.specs.declared.fields.PatchField.{PatchField}
 use Rattle.mesh_model.specs.Graph.{patches_from}
 use Rattle.mesh_graph.specs.declared.sides.Side.{Side}
 use Rattle.mesh_graph.specs.Sides.{node_on, touches, patches_at, patches_past}
+use Rattle.mesh_graph.specs.ListReads.{slice_get-set_same, slice_get-set_other}
 use Rattle.mesh_graph.specs.Chains.{first_of, IsAfter, IsChain, AreLinked}
-
-pub slice_get-set_same : {X : Type 0} → (xs : List X) (i : ℕ) (x : X) → i < length xs → slice_get (set xs i x) i ≡ Some x
-slice_get-set_same [] i x h = absurd (omega arith)
-slice_get-set_same (y ∷ ys) zero x h = refl
-slice_get-set_same (y ∷ ys) (suc i) x h = slice_get-set_same ys i x (omega arith)
-
-pub slice_get-set_other : {X : Type 0} → (xs : List X) (i j : ℕ) (x : X) → j ≢ i → slice_get (set xs i x) j ≡ slice_get xs j
-slice_get-set_other [] i j x ne = refl
-slice_get-set_other (y ∷ ys) zero zero x ne = absurd (ne refl)
-slice_get-set_other (y ∷ ys) zero (suc j) x ne = refl
-slice_get-set_other (y ∷ ys) (suc i) zero x ne = refl
-slice_get-set_other (y ∷ ys) (suc i) (suc j) x ne = slice_get-set_other ys i j x (λ e. ne (omega (arith, e)))
 
 -- the list from a place in it on
 pub drop-at : {X : Type 0} → (xs : List X) (i : ℕ) (x : X) → slice_get xs i ≡ Some x → drop i xs ≡ x ∷ drop (i + 1) xs

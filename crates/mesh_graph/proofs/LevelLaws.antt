@@ -9,7 +9,8 @@ use Rattle.file_model.specs.declared.fields.PatchField.{PatchField}
 use Rattle.mesh_model.specs.Graph.{patches_from, incoming, leads_to}
 use Rattle.mesh_model.specs.Walks.{EndsAt, IsGrounded, IsLevel}
 use Rattle.mesh_graph.specs.Levels.{levels_missing, HasOpenParent, AreLevels, AreWaiting, HasTailLevel, IsOneAbove, IsLevelOver}
-use Rattle.mesh_graph.proofs.ChainLaws.{slice_get-set_same, slice_get-set_other, slice_get-replicate}
+use Rattle.mesh_graph.specs.ListReads.{slice_get-set_same, slice_get-set_other}
+use Rattle.mesh_graph.proofs.ChainLaws.{slice_get-replicate}
 
 contains-here : {X : Type 0} → (x : X) (xs : List X) → Contains (x ∷ xs) x
 contains-here x xs = (0, omega arith, refl)

@@ -1,5 +1,5 @@
 -- Lists of patches, one behind the other.
-use Rattle.std.proofs.Common.{◌≡◌, ℕ, zero, suc, ◌-◌, ◌<◌, ◌≤◌, ◌⊎◌, inl, inr, ⊎_elim, List, [], ◌∷◌, ◌++◌, Some, length, take, drop, arith, sym, ◌∙◌, ap, subst, refl, length-append, length-drop}
+use Rattle.std.proofs.Common.{◌≡◌, ℕ, zero, suc, ◌-◌, ◌≤◌, ◌⊎◌, inl, inr, ⊎_elim, List, [], ◌∷◌, ◌++◌, Some, length, take, drop, arith, sym, ◌∙◌, ap, subst, refl, length-append, length-drop}
 use Rattle.std.specs.List.{slice_get, slice_range}
 use Rattle.std.specs.Option.{option_map}
 use Rattle.std.proofs.lemmas.List.{drop-append-le, take-append-le, drop_at, take_all, length-map}
@@ -10,6 +10,7 @@ use Rattle.mesh_graph.specs.declared.arcs.Span.{Span}
 use Rattle.mesh_graph.specs.Sides.{patches_at}
 use Rattle.mesh_graph.specs.Spans.{list_in, lists_in, IsSpan, AreSpans}
 use Rattle.mesh_graph.specs.Arcs.{AreArcs}
+use Rattle.mesh_graph.specs.ListReads.{slice_get-there}
 
 pub slice_get-push_cases : {X : Type 0} → (xs : List X) (y : X) (i : ℕ) (x : X) → slice_get (xs ++ y ∷ []) i ≡ Some x → (slice_get xs i ≡ Some x) ⊎ ((i ≡ length xs) × (y ≡ x))
 slice_get-push_cases [] y zero x h = inr (refl, (let e : y ≡ x = cc in e))
@@ -20,11 +21,6 @@ slice_get-push_cases (z ∷ zs) y (suc i) x h =
     (λ (old : slice_get zs i ≡ Some x). inl old)
     (λ (last : (i ≡ length zs) × (y ≡ x)). inr (ap suc last.0, last.1))
     (slice_get-push_cases zs y i x h)
-
-pub slice_get-there : {X : Type 0} → (xs : List X) (i : ℕ) → i < length xs → (x : X) × (slice_get xs i ≡ Some x)
-slice_get-there [] i h = absurd (omega arith)
-slice_get-there (x ∷ xs) zero h = (x, refl)
-slice_get-there (x ∷ xs) (suc i) h = slice_get-there xs i (omega arith)
 
 -- what is appended leaves a span as it is
 range_kept : (xs more : List ℕ) (start end : ℕ) → start ≤ end → end ≤ length xs → slice_range (xs ++ more) start end ≡ slice_range xs start end

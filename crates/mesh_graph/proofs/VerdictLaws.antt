@@ -13,7 +13,7 @@ use Rattle.mesh_graph.specs.declared.sides.Side.TheVariants.{Incoming, Outgoing}
 use Rattle.mesh_graph.specs.Arcs.{AreArcs, is_bare_at}
 use Rattle.mesh_graph.specs.Levels.{AreAllLevels, IsLeastWithout, level_grounds}
 use Rattle.mesh_graph.specs.Graphs.{index_of, GraphSeen, IsGraphOf}
-use Rattle.mesh_graph.proofs.SpanLaws.{slice_get-there}
+use Rattle.mesh_graph.specs.ListReads.{slice_get-there}
 use Rattle.std.proofs.lemmas.Option.{slice_get_within}
 use Rattle.mesh_graph.proofs.RootLaws.{roots_are, bare_is}
 

@@ -6,3 +6,4 @@ pub mod Levels
 pub mod Graphs
 pub mod Nesting
 pub mod NearGrid
+pub mod ListReads

@@ -4,3 +4,6 @@ pub mod Nets
 pub mod Frames
 pub mod Accepted
 pub mod Meshes
+pub mod Chosen
+pub mod NetLaws
+pub mod Orders

@@ -122,7 +122,7 @@ past_first rules v vs set start begun tries epochs left stand hand same at = rec
   on = λ more. same more ∙ at.on more;
 }
 
-hand_is : (hand other : Hand) → Some hand ≡ Some other → hand ≡ other
+pub hand_is : (hand other : Hand) → Some hand ≡ Some other → hand ≡ other
 hand_is hand other e = cc
 
 -- the verdict on the first node says how the round goes on

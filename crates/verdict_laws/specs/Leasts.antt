@@ -1,7 +1,7 @@
 -- What is the least of its kind is one.
-use Rattle.std.proofs.Common.{◌≡◌, ℕ, ◌<◌, Bool, true, false, refl, arith, inl, inr}
+use Rattle.std.proofs.Common.{◌≡◌, ℕ, ◌<◌, Bool, true, false, arith, inl, inr}
 use Rattle.std.specs.Prelude.{length}
-use Rattle.std.proofs.lemmas.Bool.{cases_lt}
+use Rattle.std.proofs.lemmas.Bool.{cases_lt, false_from_ne_true}
 use Rattle.file_model.specs.declared.fields.Node.{Node}
 use Rattle.file_model.specs.Lists.{IndexLists, FileLists}
 use Rattle.mesh_model.specs.Nets.{Pair, is_pair_before}
@@ -14,10 +14,6 @@ least_is_one m n h k =
       | inl less ↦ absurd (h less)
       | inr least ↦ elim (cases_lt n m) [ inl less ↦ absurd (k less) | inr most ↦ omega (arith, least, most) ]
     ]
-
-not_true : (b : Bool) → (b ≡ true → ⊥) → b ≡ false
-not_true true h = absurd (h refl)
-not_true false h = refl
 
 true_and_false : (b : Bool) → b ≡ true → b ≡ false → ⊥
 true_and_false true h k = absurd cc
@@ -58,5 +54,5 @@ border_is_one file v w p q first second =
 pub difference_is_one : (file : FileLists) (v : ℕ) (p q : Pair) → IsLeastDifference file v p → IsLeastDifference file v q → p ≡ q
 difference_is_one file v p q first second =
     pair_tied p q
-    (not_true (is_pair_before p q) (λ before. first.differs (second.least p first.forward before)))
-    (not_true (is_pair_before q p) (λ before. second.differs (first.least q second.forward before)))
+    (false_from_ne_true (is_pair_before p q) (λ before. first.differs (second.least p first.forward before)))
+    (false_from_ne_true (is_pair_before q p) (λ before. second.differs (first.least q second.forward before)))

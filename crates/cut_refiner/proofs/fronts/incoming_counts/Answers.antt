@@ -2,13 +2,13 @@ use Rattle.std.proofs.Common.{ap, length, arith}
 use Rattle.std.proofs.lemmas.List.{length_push}
 use Rattle.file_model.specs.Lists.{IndexLists}
 use Rattle.mesh_model.specs.Graph.{leads_to, incoming}
-use Rattle.cut_refiner.proofs.PatchLaws.{few_patches}
+use Rattle.mesh_model.specs.Chosen.{chosen_few}
 use Rattle.cut_refiner.proofs.FrontLaws.{few_fields, counted_more}
 use Rattle.cut_refiner.proofs.fronts.incoming_counts.Goals as goal
 
 pub overflow_cast-incoming : goal.overflow_cast-incoming
 overflow_cast-incoming c =
-    omega (arith, ap length c.incoming.ensures, few_patches (leads_to c.loop-node.node) c.args.mesh.now.lists.index.fields, few_fields c.args.mesh.now.lists c.index.ensures.facts)
+    omega (arith, ap length c.incoming.ensures, chosen_few (leads_to c.loop-node.node) c.args.mesh.now.lists.index.fields, few_fields c.args.mesh.now.lists c.index.ensures.facts)
 
 pub loop-node-preserved : goal.loop-node-preserved
 loop-node-preserved c =

@@ -4,7 +4,8 @@ use Rattle.std.proofs.lemmas.List.{drop_more, drop_all}
 use Rattle.mesh_model.specs.Meshes.{MeshLists}
 use Rattle.round_model.specs.Rounds.{has, with_member, frame_size}
 use Rattle.cut_refiner.proofs.ReleaseLaws.{few_candidates, no_candidate}
-use Rattle.cut_refiner.proofs.JoinLaws.{IsReleasing, joining_grows, releasing_at_start, is_missed, releases, joined, head_is_node, arc_in_range, arc_read}
+use Rattle.cut_refiner.proofs.OrderLaws.{head_is_node}
+use Rattle.cut_refiner.proofs.JoinLaws.{IsReleasing, joining_grows, releasing_at_start, is_missed, releases, joined, arc_in_range, arc_read}
 use Rattle.cut_refiner.proofs.courses.Course.join.Goals as goal
 
 pub size_with-self-requires : goal.size_with-self-requires

@@ -2,7 +2,8 @@
 use Rattle.std.proofs.Common.{ap, ◌∙◌, length, arith}
 use Rattle.file_model.specs.Lists.{IndexLists}
 use Rattle.mesh_model.specs.Graph.{leads_to, leads_from}
-use Rattle.cut_refiner.proofs.PatchLaws.{patches_in_range, few_patches}
+use Rattle.mesh_model.specs.Chosen.{chosen_few}
+use Rattle.cut_refiner.proofs.PatchLaws.{patches_in_range}
 use Rattle.cut_refiner.proofs.FrontLaws.{grown, few_fields}
 use Rattle.cut_refiner.proofs.fronts.Front.size_with.Goals as goal
 
@@ -12,7 +13,7 @@ triangles_of-into-requires-clause-patches c =
 
 pub triangles_of-into-requires-clause-few : goal.triangles_of-into-requires-clause-few
 triangles_of-into-requires-clause-few c =
-    omega (arith, ap length c.incoming.ensures, few_patches (leads_to c.args.node) c.args.mesh.now.lists.index.fields, few_fields c.args.mesh.now.lists c.requires.is_mesh)
+    omega (arith, ap length c.incoming.ensures, chosen_few (leads_to c.args.node) c.args.mesh.now.lists.index.fields, few_fields c.args.mesh.now.lists c.requires.is_mesh)
 
 pub triangles_of-out_of-requires-clause-patches : goal.triangles_of-out_of-requires-clause-patches
 triangles_of-out_of-requires-clause-patches c =
@@ -20,7 +21,7 @@ triangles_of-out_of-requires-clause-patches c =
 
 pub triangles_of-out_of-requires-clause-few : goal.triangles_of-out_of-requires-clause-few
 triangles_of-out_of-requires-clause-few c =
-    omega (arith, ap length c.outgoing.ensures, few_patches (leads_from c.args.node) c.args.mesh.now.lists.index.fields, few_fields c.args.mesh.now.lists c.requires.is_mesh)
+    omega (arith, ap length c.outgoing.ensures, chosen_few (leads_from c.args.node) c.args.mesh.now.lists.index.fields, few_fields c.args.mesh.now.lists c.requires.is_mesh)
 
 pub overflow_sub-result : goal.overflow_sub-result
 overflow_sub-result c =
