@@ -7,7 +7,7 @@ use Rattle.round_model.specs.Order.{Rules, comes_before}
 use Rattle.round_laws.specs.Before.{before_never_itself}
 use Rattle.round_laws.specs.Ascending.{Ascends}
 use Rattle.round_laws.specs.Passing.{rest_behind}
-use Rattle.cut_refiner.specs.Courses.{is_among}
+use Rattle.cut_refiner.specs.RefinementStates.{is_among}
 
 or_assoc : (a b c : Bool) → (a || (b || c)) ≡ ((a || b) || c)
 or_assoc true b c = refl

@@ -4,15 +4,15 @@
 #![tactic(auto)]
 
 mod adding;
+mod all_node_sums;
+mod borders;
 mod checkers;
 mod checks;
-mod gaps;
 mod inner;
 mod meshes;
+mod node_sums;
 mod refusals;
 mod sides;
-mod tallies;
-mod tracks;
 
 pub use checkers::Checker;
 pub use checks::check;

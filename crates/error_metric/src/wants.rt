@@ -3,7 +3,7 @@
 ghost use Rattle.std.specs.Prelude.{◌≡◌, ℕ, ◌<◌, List, length, slice_get, Some};
 ghost use Rattle.mesh_model.specs.Meshes.{MeshLists, IsMesh};
 ghost use Rattle.round_laws.specs.Parents.{FallsAlong};
-ghost use Rattle.error_metric.specs.Wants.{rules_of};
+ghost use Rattle.round_model.specs.Views.{rules_of};
 
 use dag_check::Mesh;
 
