@@ -14,7 +14,7 @@ use Rattle.edge_chain.specs.declared.edges.DirectedEdge.{DirectedEdge}
 use Rattle.edge_chain.specs.Chains.{Chain, Adds}
 use Rattle.edge_chain.specs.Edges.{edge_cmp, edge_cmp_total, edge_cmp_exact, edge_of, side_of}
 use Rattle.edge_chain.specs.Sums.{sum_of, or_zero, AreSums, HasSums, chain_of}
-use Rattle.edge_chain.proofs.Sides.{AreDistinct, AreForward, sides_distinct, sides_forward, turn_small, net_is}
+use Rattle.edge_chain.proofs.DirectedEdges.{AreDistinct, AreForward, sides_distinct, sides_forward, turn_small, net_is}
 use Rattle.edge_chain.proofs.Totals.{AreTurns, IsTotal, turns_at, sums_after, or_zero_total, fits_sum, if_some_at}
 use Rattle.edge_chain.proofs.Views.{entries_from_sums, held_entries, seen}
 

@@ -13,7 +13,7 @@ use Rattle.edge_chain.specs.declared.edges.DirectedEdge.{DirectedEdge}
 use Rattle.edge_chain.specs.Edges.{edge_cmp, pair_of}
 use Rattle.edge_chain.specs.Sums.{sum_of, is_at_edge, or_zero, unless_zero, with_sum, sums_with_place, signed_sum, sums_with_edge, AreSums}
 use Rattle.edge_chain.proofs.SumLaws.{edge_exact, at_itself, settled}
-use Rattle.edge_chain.proofs.Sides.{AreDistinct, AreForward, adds_at}
+use Rattle.edge_chain.proofs.DirectedEdges.{AreDistinct, AreForward, adds_at}
 
 -- a sum is changed where the test passes
 abbrev on_tie : Bool → (Option ℤ → Option ℤ) → Option ℤ → Option ℤ
