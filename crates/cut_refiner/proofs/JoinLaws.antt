@@ -18,7 +18,8 @@ use Rattle.round_laws.specs.Members.{as_many_members}
 use Rattle.cut_refiner.specs.declared.refinement_states.RefinementState.{RefinementState}
 use Rattle.cut_refiner.specs.RoundRules.{AreRules}
 use Rattle.cut_refiner.specs.GrowingCuts.{heads_at, missing_of, IsGrowingCut, IsGrowing}
-use Rattle.cut_refiner.specs.RefinementStates.{is_among, IsWaiting, IsGoing, CanJoin}
+use Rattle.round_laws.specs.Among.{is_among}
+use Rattle.cut_refiner.specs.RefinementStates.{IsWaiting, IsGoing, CanJoin}
 use Rattle.cut_refiner.proofs.PatchLaws.{IsPassingPatch, patches_pass}
 use Rattle.cut_refiner.proofs.GrowingCutLaws.{other_has, missing_now, closed_now}
 

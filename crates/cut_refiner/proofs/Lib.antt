@@ -1,4 +1,3 @@
-mod AmongLaws
 mod AskLaws
 mod CandidateLaws
 mod RefinementStateLaws

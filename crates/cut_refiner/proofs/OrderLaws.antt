@@ -21,8 +21,9 @@ use Rattle.round_laws.specs.Cuts.{inner_no_sink, joining_from_test}
 use Rattle.cut_refiner.specs.declared.refinement_states.RefinementState.{RefinementState}
 use Rattle.cut_refiner.specs.RoundRules.{AreRules}
 use Rattle.cut_refiner.specs.GrowingCuts.{missing_of, IsGrowingCut}
-use Rattle.cut_refiner.specs.RefinementStates.{is_among, is_ready, IsWaiting, IsGoing, CanJoin}
-use Rattle.cut_refiner.proofs.AmongLaws.{among_both, among_at, middle_among, each_among, not_behind}
+use Rattle.round_laws.specs.Among.{is_among}
+use Rattle.cut_refiner.specs.RefinementStates.{is_ready, IsWaiting, IsGoing, CanJoin}
+use Rattle.round_laws.specs.Among.{among_both, among_at, middle_among, each_among, not_behind}
 use Rattle.cut_refiner.proofs.ReadyLaws.{times_none, is_free, parents_tell}
 
 -- ---- inner nodes

@@ -17,9 +17,10 @@ use Rattle.round_laws.specs.Passing.{passes, begins_at, has_first_patch}
 use Rattle.round_laws.specs.Cuts.{inner_no_sink}
 use Rattle.cut_refiner.specs.declared.refinement_states.RefinementState.{RefinementState}
 use Rattle.cut_refiner.specs.declared.growing_cuts.GrowingCut.{GrowingCut}
-use Rattle.cut_refiner.specs.RefinementStates.{is_among, IsGoing, IsFound, IsNext, ArePassed}
+use Rattle.round_laws.specs.Among.{is_among}
+use Rattle.cut_refiner.specs.RefinementStates.{IsGoing, IsFound, IsNext, ArePassed}
 use Rattle.cut_refiner.specs.Refiners.{degree, IsThrough, IsTrying, IsAt}
-use Rattle.cut_refiner.proofs.AmongLaws.{each_among, middle_among}
+use Rattle.round_laws.specs.Among.{each_among, middle_among}
 use Rattle.cut_refiner.proofs.OrderLaws.{inner_of_order}
 
 -- ---- what follows a node of the order is one list

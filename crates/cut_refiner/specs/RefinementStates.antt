@@ -1,11 +1,12 @@
 -- A round on its way through the order of the nodes.
 use Rattle.std.specs.Prelude.{◌≡◌, ℕ, ◌<◌, ◌≤◌, ◌==◌, Bool, true, false, not, ◌&&◌, List, ◌∷◌, ◌++◌, length, slice_get, slice_index, Option, Some, None}
-use Rattle.std.specs.List.{AllByRecursion, sum_by, list_any}
+use Rattle.std.specs.List.{AllByRecursion, sum_by}
 use Rattle.file_model.specs.declared.fields.PatchField.{PatchField}
 use Rattle.mesh_model.specs.Graph.{is_sink}
 use Rattle.mesh_model.specs.Nets.{one_if}
 use Rattle.round_model.specs.Order.{Rules, score, level, node_order}
 use Rattle.round_model.specs.Rounds.{has, has_parents, is_wanted, is_tried}
+use Rattle.round_laws.specs.Among.{is_among}
 use Rattle.cut_refiner.specs.declared.candidates.Candidate.{Candidate}
 use Rattle.cut_refiner.specs.declared.refinement_states.RefinementState.{RefinementState}
 use Rattle.cut_refiner.specs.GrowingCuts.{IsGrowingCut}
@@ -18,10 +19,6 @@ pub record IsCandidate (rules : Rules) (c : Candidate) : Type 0 where
 -- how often the node stands among the candidates
 unfoldable pub times_of : List Candidate → ℕ → ℕ
 times_of items v = sum_by (λ (c : Candidate). one_if (c.node.0 == v)) items
-
--- the node stands in the list
-abbrev pub is_among : List ℕ → ℕ → Bool
-is_among vs v = list_any (λ u. u == v) vs
 
 -- a wanted node of the rest of the order to which no patch leads from outside the set
 abbrev pub is_ready : Rules → List ℕ → List ℕ → ℕ → Bool

@@ -4,7 +4,8 @@ ghost use Rattle.std.specs.Prelude.{◌≡◌, ◌≢◌, ℕ, ◌<◌, ◌≤�
 ghost use Rattle.mesh_model.specs.Graph.{is_sink};
 ghost use Rattle.round_model.specs.Order.{node_order};
 ghost use Rattle.round_model.specs.Rounds.{with_member, root_set};
-ghost use Rattle.cut_refiner.specs.RefinementStates.{is_among, IsWaiting, IsGoing, CanJoin, IsNext};
+ghost use Rattle.round_laws.specs.Among.{is_among};
+ghost use Rattle.cut_refiner.specs.RefinementStates.{IsWaiting, IsGoing, CanJoin, IsNext};
 
 use crate::candidates::Candidates;
 use crate::growing_cuts::GrowingCut;

@@ -1,13 +1,16 @@
--- Nodes that stand in a list.
+-- Numbers that stand in a list.
 use Rattle.std.proofs.Common.{◌≡◌, ℕ, zero, suc, Bool, true, false, ◌||◌, eqb, List, [], ◌∷◌, ◌++◌, Some, refl, ap, subst, ◌∙◌, inl, inr}
-use Rattle.std.specs.Prelude.{slice_get}
-use Rattle.std.specs.List.{AllByRecursion}
+use Rattle.std.specs.Prelude.{◌==◌, slice_get}
+use Rattle.std.specs.List.{AllByRecursion, list_any}
 use Rattle.std.proofs.lemmas.Bool.{eqb-true, eq-eqb, or_cases, or_left, or_right, false_from_ne_true}
 use Rattle.round_model.specs.Order.{Rules, comes_before}
 use Rattle.round_laws.specs.Before.{before_never_itself}
 use Rattle.round_laws.specs.Ascending.{Ascends}
 use Rattle.round_laws.specs.Passing.{rest_behind}
-use Rattle.cut_refiner.specs.RefinementStates.{is_among}
+
+-- the number stands in the list
+abbrev pub is_among : List ℕ → ℕ → Bool
+is_among vs v = list_any (λ u. u == v) vs
 
 or_assoc : (a b c : Bool) → (a || (b || c)) ≡ ((a || b) || c)
 or_assoc true b c = refl
