@@ -1,0 +1,10 @@
+pub mod Places
+pub mod Tiers
+pub mod Changes
+pub mod Ranks
+pub mod Choices
+pub mod Turns
+pub mod Ties
+pub mod Counts
+pub mod Chains
+pub mod Settling
