@@ -8,3 +8,10 @@ pub mod Ties
 pub mod Counts
 pub mod Chains
 pub mod Settling
+pub mod ComingLaws
+pub mod LoadLaws
+pub mod BodyLaws
+pub mod TierLaws
+pub mod RankLaws
+pub mod TopmostLaws
+pub mod Follows
