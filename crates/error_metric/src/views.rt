@@ -3,7 +3,6 @@
 ghost use Rattle.std.specs.Prelude.{◌≡◌, map};
 ghost use Rattle.grid_vertex.specs.Points.{is_within, is_point_within};
 ghost use Rattle.file_model.specs.Rules.{is_between};
-ghost use Rattle.round_model.specs.declared.limits.TheConstants.{EYE_REACH};
 ghost use Rattle.round_model.specs.Scores.{score_of};
 ghost use Rattle.round_model.specs.Views.{is_view, view_of};
 ghost use Rattle.error_metric.specs.Laws.{as_many_scores, scores_fall};

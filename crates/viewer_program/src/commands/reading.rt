@@ -2,7 +2,6 @@
 
 ghost use Rattle.std.specs.Prelude.{◌≡◌, map, string_bytes};
 ghost use Rattle.number_words.specs.Numbers.{number_in, signed_in};
-ghost use Rattle.round_model.specs.declared.limits.TheConstants.{EYE_REACH, GREATEST_FOCAL, GREATEST_THRESHOLD};
 ghost use Rattle.viewer_program.specs.Commands.{command_in, command_with_file_in, command_with_view_in, view_in, point_in, name_in};
 
 use super::Command;
