@@ -7,7 +7,6 @@
 
 mod candidates;
 mod cut_lists;
-mod degrees;
 mod growing_cuts;
 mod hands;
 mod locks;
