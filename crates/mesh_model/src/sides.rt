@@ -1,7 +1,7 @@
 //! The two sides of a node.
 
 /// Which patches of a node.
-#[derive(Clone, Copy)]
+#[derive(Clone, Copy, Debug, PartialEq, Eq)]
 pub enum Side {
     /// Those that lead to it.
     Incoming,
