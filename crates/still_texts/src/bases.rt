@@ -10,8 +10,8 @@ ghost use Rattle.body_loads.specs.declared.refusals.LoadRefusal.TheVariants.{Rea
 ghost use Rattle.still_texts.specs.Shown.{IsBaseText};
 ghost use Rattle.still_texts.specs.Texts.{GivesText};
 
-use body_loads::{LoadRefusal, load_bodies};
 use accepted_mesh::Mesh;
+use body_loads::{LoadRefusal, load_bodies};
 use frame_writer::frame_text;
 use std::alloc::Global;
 use view_outside::Store;

@@ -15,9 +15,9 @@ ghost use Rattle.round_model.specs.Views.{view_rules};
 ghost use Rattle.still_texts.specs.Full.{IsFullText};
 ghost use Rattle.still_texts.specs.Texts.{GivesText};
 
+use accepted_mesh::Mesh;
 use body_loads::{LoadRefusal, load_bodies};
 use cut_refiner::{Ask, Refiner};
-use accepted_mesh::Mesh;
 use error_metric::View;
 use frame_writer::frame_text;
 use grid_vertex::NoMemory;
