@@ -5,7 +5,7 @@ ghost use Rattle.std.specs.List.{sum_by};
 ghost use Rattle.round_model.specs.Rounds.{has, has_parents, with_member, frame_size};
 ghost use Rattle.cut_refiner.specs.GrowingCuts.{triangles_at, IsGrowingCut, IsGrowing, AreCounts};
 
-use dag_check::Mesh;
+use accepted_mesh::Mesh;
 use file_model::PatchField;
 use grid_vertex::NoMemory;
 use std::alloc::Global;

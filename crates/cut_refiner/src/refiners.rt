@@ -6,7 +6,7 @@ use crate::hands::go_on;
 use crate::locks::Locks;
 use crate::refinement_states::RefinementState;
 use crate::round_rules::RoundRules;
-use dag_check::Mesh;
+use accepted_mesh::Mesh;
 use error_metric::Want;
 use file_model::{Try, is_granted};
 use grid_vertex::NoMemory;

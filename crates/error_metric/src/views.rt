@@ -9,7 +9,7 @@ ghost use Rattle.error_metric.specs.Laws.{as_many_scores, scores_fall};
 
 use crate::scores::score_of_node;
 use crate::wants::Want;
-use dag_check::Mesh;
+use accepted_mesh::Mesh;
 use grid_vertex::Point;
 use std::marker::Model;
 

@@ -9,7 +9,7 @@ ghost use Rattle.view_outside.specs.Files.{HasFile, file_bytes};
 ghost use Rattle.round_model.specs.declared.asks.Ask.TheVariants.{Done};
 ghost use Rattle.round_model.specs.Rounds.{IsWhole};
 ghost use Rattle.round_model.specs.Refiners.{pending_ask, round_state};
-ghost use Rattle.dag_check.specs.Checks.{IsMeshOf};
+ghost use Rattle.accepted_mesh.specs.MeshView.{IsMeshOf};
 ghost use Rattle.body_loads.specs.Loads.{LoadsOnlyIf};
 ghost use Rattle.round_model.specs.Views.{view_rules};
 ghost use Rattle.still_texts.specs.Full.{IsFullText};
@@ -17,7 +17,7 @@ ghost use Rattle.still_texts.specs.Texts.{GivesText};
 
 use body_loads::{LoadRefusal, load_bodies};
 use cut_refiner::{Ask, Refiner};
-use dag_check::Mesh;
+use accepted_mesh::Mesh;
 use error_metric::View;
 use frame_writer::frame_text;
 use grid_vertex::NoMemory;

@@ -8,8 +8,8 @@ use Rattle.mesh_model.specs.Nets.{HasOpenPairs}
 use Rattle.dag_check.specs.Added.{file_with}
 use Rattle.dag_check.specs.AllNodeSums.{all_sums_of}
 use Rattle.dag_check.specs.Checkers.{CheckerSeen, Follows}
-use Rattle.dag_check.specs.MeshView.{MeshSeen}
-use Rattle.dag_check.proofs.MeshLaws.{mesh_is}
+use Rattle.accepted_mesh.specs.MeshView.{MeshSeen}
+use Rattle.accepted_mesh.specs.MeshLaws.{mesh_is}
 use Rattle.dag_check.proofs.FinishLaws.{Decided, verdict_err, verdict_ok, finish_err, finish_ok, base_pairs}
 use Rattle.dag_check.proofs.checkers.Checker.finish.Goals as goal
 

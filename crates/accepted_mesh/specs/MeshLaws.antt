@@ -9,7 +9,7 @@ use Rattle.mesh_model.specs.Graph.{numbers_from, is_root}
 use Rattle.mesh_model.specs.Accepted.{IsNestedGraph}
 use Rattle.mesh_model.specs.Meshes.{IsMesh}
 use Rattle.mesh_graph.specs.Graphs.{GraphSeen}
-use Rattle.dag_check.specs.MeshView.{levels_of, mesh_lists, IsMeshState}
+use Rattle.accepted_mesh.specs.MeshView.{levels_of, mesh_lists, IsMeshState}
 
 length-levels : (levels : List (Option ℕ)) → length (levels_of levels) ≡ length levels
 length-levels levels = length-map levels (λ level. unwrap_or level 0)

@@ -15,7 +15,7 @@ pub struct Mesh {
 }
 
 impl Model for Mesh {
-    ghost use Rattle.dag_check.specs.MeshView.{MeshSeen, mesh_seen, IsMeshState};
+    ghost use Rattle.accepted_mesh.specs.MeshView.{MeshSeen, mesh_seen, IsMeshState};
 
     ghost Value = { MeshSeen };
 
@@ -30,9 +30,9 @@ impl Mesh {
     ghost use Rattle.mesh_model.specs.Accepted.{IsNestedGraph};
     ghost use Rattle.mesh_model.specs.Meshes.{IsMesh};
     ghost use Rattle.mesh_model.specs.Frames.{triangles_in_all};
-    ghost use Rattle.dag_check.specs.MeshView.{mesh_seen, IsMeshState};
+    ghost use Rattle.accepted_mesh.specs.MeshView.{mesh_seen, IsMeshState};
 
-    pub(crate) fn with(index: Index, graph: MeshGraph, root: u32, base_open: u64) -> Mesh
+    pub fn with(index: Index, graph: MeshGraph, root: u32, base_open: u64) -> Mesh
         requires { IsMeshState index graph root (triangles_in_all index.fields) }
         ensures { result ≡ mesh_seen index graph root base_open }
     {

@@ -1,7 +1,7 @@
 -- The root is a node.
 use Rattle.std.proofs.Common.{arith}
-use Rattle.dag_check.proofs.MeshLaws.{root_below}
-use Rattle.dag_check.proofs.meshes.Mesh.base.Goals as goal
+use Rattle.accepted_mesh.specs.MeshLaws.{root_below}
+use Rattle.accepted_mesh.proofs.meshes.Mesh.base.Goals as goal
 
 pub outgoing-requires : goal.outgoing-requires
 outgoing-requires c = omega (arith, root_below _ _ c.self.invariant.nested, c.self.invariant.graph.outgoing_count)
