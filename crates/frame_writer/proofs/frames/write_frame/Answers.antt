@@ -10,7 +10,7 @@ use Rattle.frame_writer.specs.Frames.{AddsFrame, frame_of, triangles_in}
 use Rattle.frame_writer.proofs.FrameLemmas.{Adds-frame}
 use Rattle.frame_writer.specs.Appending.{Adds-ended}
 use Rattle.frame_writer.specs.Ending.{begins_line-frame_text}
-use Rattle.frame_writer.proofs.frames.frame_text.Goals as goal
+use Rattle.frame_writer.proofs.frames.write_frame.Goals as goal
 
 pub returns-clause-ok : goal.returns-clause-ok
 unfolding head_line cut_line patches_line
