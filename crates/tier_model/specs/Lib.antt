@@ -14,4 +14,6 @@ pub mod BodyLaws
 pub mod TierLaws
 pub mod RankLaws
 pub mod TopmostLaws
+pub mod Chosen
 pub mod Follows
+pub mod TurnLaws
