@@ -10,7 +10,7 @@ use Rattle.file_model.specs.Lists.{BodyLists, IndexLists, FileLists, bodies_offs
 use Rattle.file_model.specs.Reading.{◌>>=◌, index_in, bodies_in, body_of_file, body_offset, end_in, file_in}
 use Rattle.mesh_model.specs.Graph.{patches_from, patches_where}
 use Rattle.mesh_model.specs.Frames.{triangles_where}
-use Rattle.patch_body.specs.Seen.{SeenBody}
+use Rattle.file_model.specs.Lists.{SeenBody}
 use Rattle.body_loads.specs.Loads.{body_at, read_as, AreBodiesAt, lists_of}
 
 -- ---- the body of one patch

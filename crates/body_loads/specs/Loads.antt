@@ -4,7 +4,7 @@ use Rattle.file_model.specs.declared.faults.FileFault.{FileFault}
 use Rattle.file_model.specs.declared.fields.PatchField.{PatchField}
 use Rattle.file_model.specs.Lists.{BodyLists, IndexLists}
 use Rattle.file_model.specs.Reading.{body_of_file, body_offset}
-use Rattle.patch_body.specs.Seen.{SeenBody}
+use Rattle.file_model.specs.Lists.{SeenBody}
 use Rattle.body_loads.specs.declared.refusals.LoadRefusal.{LoadRefusal}
 use Rattle.body_loads.specs.declared.refusals.LoadRefusal.TheVariants.{Changed, ReadFault, Memory}
 

@@ -11,7 +11,7 @@ ghost use Rattle.file_model.specs.Lists.{FileLists, triangles_of};
 ghost use Rattle.file_model.specs.Reading.{file_in};
 ghost use Rattle.mesh_model.specs.Graph.{patches_where};
 ghost use Rattle.mesh_model.specs.Frames.{triangles_where};
-ghost use Rattle.patch_body.specs.Seen.{SeenBody};
+ghost use Rattle.file_model.specs.Lists.{SeenBody};
 ghost use Rattle.body_loads.specs.Loads.{body_at, AreBodiesAt, lists_of};
 
 mod loads;

@@ -9,7 +9,7 @@ use Rattle.round_model.specs.Order.{Rules, comes_before}
 use Rattle.frame_laws.specs.Each.{each_then}
 use Rattle.cut_refiner.specs.declared.candidates.Candidate.{Candidate}
 use Rattle.cut_refiner.specs.Candidates.{candidate_order, is_tried_before, IsFirst}
-use Rattle.cut_refiner.specs.Courses.{IsCandidate}
+use Rattle.cut_refiner.specs.RefinementStates.{IsCandidate}
 
 order_tells : (a x b y c z : ℕ) → is_lt (ordering_then (nat_cmp a x) (ordering_then (nat_cmp y b) (nat_cmp z c))) ≡ (ltb a x || (eqb x a && (ltb y b || (eqb y b && ltb z c))))
 order_tells a x b y c z = grind (arith, nat_tests)

@@ -28,8 +28,8 @@ length_from test (f ∷ fs) first =
     (λ passes. let one = ap one_if passes in omega arith) (λ fails. let none = ap one_if fails in omega arith)
 
 -- a number stands in the list at most once
-abbrev StandOnce : List ℕ → Type 0
-StandOnce vs = (t : ℕ) → sum_by (λ v. one_if (eqb t v)) vs ≤ 1
+abbrev StateOnce : List ℕ → Type 0
+StateOnce vs = (t : ℕ) → sum_by (λ v. one_if (eqb t v)) vs ≤ 1
 
 none_below : (test : ℕ → Bool) (n first t : ℕ) → t < first → sum_by (λ v. one_if (eqb t v)) (numbers_from first n test) ≡ 0
 unfolding numbers_from
@@ -40,7 +40,7 @@ none_below test (suc n) first t less =
     let cons = sum_by-cons (λ v. one_if (eqb t v)) first (numbers_from (first + 1) n test) in
     cond_both (test first) (first ∷ numbers_from (first + 1) n test) (numbers_from (first + 1) n test) (λ (vs : List ℕ). sum_by (λ v. one_if (eqb t v)) vs ≡ 0) (λ passes. omega arith) (λ fails. rest)
 
-numbers_once : (test : ℕ → Bool) (n first : ℕ) → StandOnce (numbers_from first n test)
+numbers_once : (test : ℕ → Bool) (n first : ℕ) → StateOnce (numbers_from first n test)
 unfolding numbers_from
 numbers_once test zero first t = omega arith
 numbers_once test (suc n) first t =
@@ -54,7 +54,7 @@ numbers_once test (suc n) first t =
     (λ fails. rest)
 
 -- so each field leads from at most one of them
-all_within : (vs : List ℕ) (fields : List PatchField) → StandOnce vs → sum_by (from_node fields) vs ≤ length fields
+all_within : (vs : List ℕ) (fields : List PatchField) → StateOnce vs → sum_by (from_node fields) vs ≤ length fields
 all_within vs [] once = omega (arith, sum_of_none (from_node []) vs (each_of_all (λ v. from_node [] v ≡ 0) vs (λ v. refl)))
 all_within vs (f ∷ fs) once =
     let split = sums_split (λ v. one_if (leads_from v f)) (from_node fs) (from_node (f ∷ fs)) vs

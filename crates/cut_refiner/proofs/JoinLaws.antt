@@ -15,12 +15,13 @@ use Rattle.mesh_model.specs.Meshes.{MeshLists}
 use Rattle.round_model.specs.Order.{Rules}
 use Rattle.round_model.specs.Rounds.{has, with_member, frame_size}
 use Rattle.round_laws.specs.Members.{as_many_members}
-use Rattle.cut_refiner.specs.declared.courses.Course.{Course}
+use Rattle.cut_refiner.specs.declared.refinement_states.RefinementState.{RefinementState}
 use Rattle.cut_refiner.specs.RoundRules.{AreRules}
-use Rattle.cut_refiner.specs.Fronts.{heads_at, missing_of, IsFront, IsGrowing}
-use Rattle.cut_refiner.specs.Courses.{is_among, IsWaiting, IsGoing, CanJoin}
+use Rattle.cut_refiner.specs.GrowingCuts.{heads_at, missing_of, IsGrowingCut, IsGrowing}
+use Rattle.round_laws.specs.Among.{is_among}
+use Rattle.cut_refiner.specs.RefinementStates.{IsWaiting, IsGoing, CanJoin}
 use Rattle.cut_refiner.proofs.PatchLaws.{IsPassingPatch, patches_pass}
-use Rattle.cut_refiner.proofs.FrontLaws.{other_has, missing_now, closed_now}
+use Rattle.cut_refiner.proofs.GrowingCutLaws.{other_has, missing_now, closed_now}
 
 -- the numbers of missing patches are those of the set, and of the patches that are still to be released
 pub record IsReleasing (mesh : MeshLists) (set : List Bool) (left missing : List ℕ) : Type 0 where
@@ -50,32 +51,32 @@ module _ (mesh : MeshLists) (set : List Bool) (left later missing : List ℕ) (p
 -- ---- the join as a whole
 
 -- what the code knows of a node that joins
-pub joining_grows : (rules : Rules) → AreRules rules → (rest : List ℕ) (course : Course) (v : ℕ) → CanJoin rules rest course v → IsGrowing rules.mesh course.front.in_cut.items course.front.missing.items course.front.size v
-joining_grows rules are rest course v can = record { is_mesh = are.mesh; front = can.going.front; node = can.node; outside = can.outside; parents = can.parents }
+pub joining_grows : (rules : Rules) → AreRules rules → (rest : List ℕ) (refinement : RefinementState) (v : ℕ) → CanJoin rules rest refinement v → IsGrowing rules.mesh refinement.growing.in_cut.items refinement.growing.missing.items refinement.growing.size v
+joining_grows rules are rest refinement v can = record { is_mesh = are.mesh; growing = can.going.growing; node = can.node; outside = can.outside; parents = can.parents }
 
-pub releasing_at_start : (rules : Rules) → AreRules rules → (rest : List ℕ) (course : Course) (v : ℕ) → CanJoin rules rest course v → IsReleasing rules.mesh (with_member course.front.in_cut.items v) (outgoing rules.mesh.index.fields v) course.front.missing.items
-releasing_at_start rules are rest course v can =
-    let set = course.front.in_cut.items in
-    let grows = joining_grows rules are rest course v can in
+pub releasing_at_start : (rules : Rules) → AreRules rules → (rest : List ℕ) (refinement : RefinementState) (v : ℕ) → CanJoin rules rest refinement v → IsReleasing rules.mesh (with_member refinement.growing.in_cut.items v) (outgoing rules.mesh.index.fields v) refinement.growing.missing.items
+releasing_at_start rules are rest refinement v can =
+    let set = refinement.growing.in_cut.items in
+    let grows = joining_grows rules are rest refinement v can in
     record {
-      counts = can.going.front.counts;
-      each = λ u node. can.going.front.each u node ∙ missing_now rules.mesh set course.front.missing.items course.front.size v grows u;
+      counts = can.going.growing.counts;
+      each = λ u node. can.going.growing.each u node ∙ missing_now rules.mesh set refinement.growing.missing.items refinement.growing.size v grows u;
     }
 
-pub joined : (rules : Rules) → AreRules rules → (rest : List ℕ) (course new : Course) (v : ℕ) → CanJoin rules rest course v → new.front.in_cut.items ≡ with_member course.front.in_cut.items v → new.front.size ≡ frame_size (has (with_member course.front.in_cut.items v)) rules.mesh.index.fields → IsReleasing rules.mesh (with_member course.front.in_cut.items v) [] new.front.missing.items → IsWaiting rules rest new.front.missing.items new.candidates.items → length rules.mesh.index.nodes ≤ new.candidates.room → IsGoing rules rest new
-joined rules are rest course new v can set_is size_is releasing waiting room =
-    let set = course.front.in_cut.items in
+pub joined : (rules : Rules) → AreRules rules → (rest : List ℕ) (refinement new : RefinementState) (v : ℕ) → CanJoin rules rest refinement v → new.growing.in_cut.items ≡ with_member refinement.growing.in_cut.items v → new.growing.size ≡ frame_size (has (with_member refinement.growing.in_cut.items v)) rules.mesh.index.fields → IsReleasing rules.mesh (with_member refinement.growing.in_cut.items v) [] new.growing.missing.items → IsWaiting rules rest new.growing.missing.items new.candidates.items → length rules.mesh.index.nodes ≤ new.candidates.room → IsGoing rules rest new
+joined rules are rest refinement new v can set_is size_is releasing waiting room =
+    let set = refinement.growing.in_cut.items in
     let now_set = with_member set v in
-    let grows = joining_grows rules are rest course v can in
-    let front : IsFront rules.mesh now_set new.front.missing.items new.front.size = record {
-      flags = as_many_members set v ∙ can.going.front.flags;
+    let grows = joining_grows rules are rest refinement v can in
+    let growing : IsGrowingCut rules.mesh now_set new.growing.missing.items new.growing.size = record {
+      flags = as_many_members set v ∙ can.going.growing.flags;
       counts = releasing.counts;
-      closed = closed_now rules.mesh set course.front.missing.items course.front.size v grows;
+      closed = closed_now rules.mesh set refinement.growing.missing.items refinement.growing.size v grows;
       each = λ u node. omega (arith, releasing.each u node);
       triangles = size_is;
     } in
     record {
-      front = subst (λ (s : List Bool). IsFront rules.mesh s new.front.missing.items new.front.size) (sym set_is) front;
+      growing = subst (λ (s : List Bool). IsGrowingCut rules.mesh s new.growing.missing.items new.growing.size) (sym set_is) growing;
       waiting = waiting;
       room = room;
       outside = λ u there. ap (λ (s : List Bool). has s u) set_is ∙ other_has set v u (λ same. let past = can.past in let here = subst (λ (w : ℕ). is_among rest w ≡ true) same there in absurd (cc)) ∙ can.going.outside u there;

@@ -1,9 +1,8 @@
-mod AmongLaws
 mod AskLaws
 mod CandidateLaws
-mod CourseLaws
+mod RefinementStateLaws
 mod DegreeLaws
-mod FrontLaws
+mod GrowingCutLaws
 mod JoinLaws
 mod ListedLaws
 mod ListingLaws

@@ -18,11 +18,12 @@ use Rattle.round_laws.specs.Ascending.{Ascends, IsInnerNode, order_ascends, orde
 use Rattle.round_laws.specs.Parents.{parent_before}
 use Rattle.round_laws.specs.Passing.{stands_behind}
 use Rattle.round_laws.specs.Cuts.{inner_no_sink, joining_from_test}
-use Rattle.cut_refiner.specs.declared.courses.Course.{Course}
+use Rattle.cut_refiner.specs.declared.refinement_states.RefinementState.{RefinementState}
 use Rattle.cut_refiner.specs.RoundRules.{AreRules}
-use Rattle.cut_refiner.specs.Fronts.{missing_of, IsFront}
-use Rattle.cut_refiner.specs.Courses.{is_among, is_ready, IsWaiting, IsGoing, CanJoin}
-use Rattle.cut_refiner.proofs.AmongLaws.{among_both, among_at, middle_among, each_among, not_behind}
+use Rattle.cut_refiner.specs.GrowingCuts.{missing_of, IsGrowingCut}
+use Rattle.round_laws.specs.Among.{is_among}
+use Rattle.cut_refiner.specs.RefinementStates.{is_ready, IsWaiting, IsGoing, CanJoin}
+use Rattle.round_laws.specs.Among.{among_both, among_at, middle_among, each_among, not_behind}
 use Rattle.cut_refiner.proofs.ReadyLaws.{times_none, is_free, parents_tell}
 
 -- ---- inner nodes
@@ -88,12 +89,12 @@ module _ (rules : Rules) (are : AreRules rules) (gone rest : List ℕ) (v : ℕ)
   v_among = ap (λ (vs : List ℕ). is_among vs v) order ∙ middle_among gone rest v
 
   -- it can join where it is tried
-  pub tried_can_join : (course : Course) → IsGoing rules rest course → is_tried rules course.front.in_cut.items v ≡ true → has course.front.in_cut.items v ≡ false → CanJoin rules rest course v
-  tried_can_join course going tried outside = record {
+  pub tried_can_join : (refinement : RefinementState) → IsGoing rules rest refinement → is_tried rules refinement.growing.in_cut.items v ≡ true → has refinement.growing.in_cut.items v ≡ false → CanJoin rules rest refinement v
+  tried_can_join refinement going tried outside = record {
     going = going;
     node = (inner_of_order rules v v_among).node;
     outside = outside;
-    parents = (joining_from_test rules course.front.in_cut.items v tried).parents;
+    parents = (joining_from_test rules refinement.growing.in_cut.items v tried).parents;
     past = not_behind rules v gone rest ascends;
     children = child_of_node;
   }
@@ -133,15 +134,15 @@ misses_some fields nodes v inner =
     no_parents [] some = absurd (cc)
     no_parents (f ∷ fs) some = step (leads_to v f) (has (replicate nodes false) f.tail) (has_parents fs (replicate nodes false) v) (list_any (leads_to v) fs) (empty_has_none nodes f.tail) (no_parents fs) some
 
-root_can_join : (rules : Rules) → AreRules rules → (course : Course) → course.front.in_cut.items ≡ replicate (length rules.mesh.index.nodes) false → IsFront rules.mesh course.front.in_cut.items course.front.missing.items course.front.size → course.candidates.items ≡ [] → length rules.mesh.index.nodes ≤ course.candidates.room → CanJoin rules (node_order rules) course rules.mesh.root
-root_can_join rules are course empty front none room =
+root_can_join : (rules : Rules) → AreRules rules → (refinement : RefinementState) → refinement.growing.in_cut.items ≡ replicate (length rules.mesh.index.nodes) false → IsGrowingCut rules.mesh refinement.growing.in_cut.items refinement.growing.missing.items refinement.growing.size → refinement.candidates.items ≡ [] → length rules.mesh.index.nodes ≤ refinement.candidates.room → CanJoin rules (node_order rules) refinement rules.mesh.root
+root_can_join rules are refinement empty growing none room =
     let nodes = length rules.mesh.index.nodes in
     let fields = rules.mesh.index.fields in
     let outside = λ (v : ℕ). ap (λ (s : List Bool). has s v) empty ∙ empty_has_none nodes v in
     record {
       going = record {
-        front = front;
-        waiting = subst (IsWaiting rules (node_order rules) course.front.missing.items) (sym none) (record {
+        growing = growing;
+        waiting = subst (IsWaiting rules (node_order rules) refinement.growing.missing.items) (sym none) (record {
           each = tt;
           once = λ v. times_none v ∙ sym (ap one_if (never_ready v));
         });
@@ -152,27 +153,27 @@ root_can_join rules are course empty front none room =
       };
       node = (root_of rules are).node;
       outside = outside rules.mesh.root;
-      parents = parents_of_root fields course.front.in_cut.items rules.mesh.root (root_of rules are).no_patch;
+      parents = parents_of_root fields refinement.growing.in_cut.items rules.mesh.root (root_of rules are).no_patch;
       past = root_apart rules are;
       children = λ p f here tail. child_in_order rules are p f here;
     }
   where
-    never_ready : (v : ℕ) → is_ready rules (node_order rules) course.front.missing.items v ≡ false
+    never_ready : (v : ℕ) → is_ready rules (node_order rules) refinement.growing.missing.items v ≡ false
     never_ready v =
-        false_from_ne_true (is_ready rules (node_order rules) course.front.missing.items v) (λ ready.
-        let parts = and_parts (is_among (node_order rules) v) (is_free rules course.front.missing.items v) ready in
+        false_from_ne_true (is_ready rules (node_order rules) refinement.growing.missing.items v) (λ ready.
+        let parts = and_parts (is_among (node_order rules) v) (is_free rules refinement.growing.missing.items v) ready in
         let inner = inner_of_order rules v parts.0 in
-        let free = (and_parts (is_wanted rules v) (eqb (slice_index course.front.missing.items v) 0) parts.1).1 in
-        let told = ap (λ n. eqb n 0) (front.each v inner.node) in
+        let free = (and_parts (is_wanted rules v) (eqb (slice_index refinement.growing.missing.items v) 0) parts.1).1 in
+        let told = ap (λ n. eqb n 0) (growing.each v inner.node) in
         let some = subst (λ (s : List Bool). eqb (missing_of rules.mesh.index.fields (has s) v) 0 ≡ false) (sym empty) (misses_some rules.mesh.index.fields (length rules.mesh.index.nodes) v inner.inner) in
         absurd (cc))
 
 -- the set of no nodes, as the code makes it
-pub empty_can_join : (rules : Rules) → AreRules rules → (lists : MeshLists) (course : Course) (count : ℕ) → lists ≡ rules.mesh → course.front.in_cut.items ≡ replicate (length lists.index.nodes) false → IsFront lists course.front.in_cut.items course.front.missing.items course.front.size → course.candidates.items ≡ [] → count ≡ length lists.index.nodes → course.candidates.room ≡ count → CanJoin rules (node_order rules) course rules.mesh.root
-empty_can_join rules are lists course count same empty front none counted room =
-    root_can_join rules are course
-    (subst (λ (m : MeshLists). course.front.in_cut.items ≡ replicate (length m.index.nodes) false) same empty)
-    (subst (λ (m : MeshLists). IsFront m course.front.in_cut.items course.front.missing.items course.front.size) same front)
+pub empty_can_join : (rules : Rules) → AreRules rules → (lists : MeshLists) (refinement : RefinementState) (count : ℕ) → lists ≡ rules.mesh → refinement.growing.in_cut.items ≡ replicate (length lists.index.nodes) false → IsGrowingCut lists refinement.growing.in_cut.items refinement.growing.missing.items refinement.growing.size → refinement.candidates.items ≡ [] → count ≡ length lists.index.nodes → refinement.candidates.room ≡ count → CanJoin rules (node_order rules) refinement rules.mesh.root
+empty_can_join rules are lists refinement count same empty growing none counted room =
+    root_can_join rules are refinement
+    (subst (λ (m : MeshLists). refinement.growing.in_cut.items ≡ replicate (length m.index.nodes) false) same empty)
+    (subst (λ (m : MeshLists). IsGrowingCut m refinement.growing.in_cut.items refinement.growing.missing.items refinement.growing.size) same growing)
     none (let nodes = ap (λ (m : MeshLists). length m.index.nodes) same in omega arith)
 
 pub root_set_is : (rules : Rules) (set : List Bool) (lists : MeshLists) (root : ℕ) → set ≡ replicate (length rules.mesh.index.nodes) false → lists ≡ rules.mesh → root ≡ lists.root → with_member set root ≡ root_set rules

@@ -17,10 +17,11 @@ use Rattle.round_laws.specs.Ascending.{Ascends, IsInnerNode, order_ascends, orde
 use Rattle.round_laws.specs.Passing.{gone_before}
 use Rattle.cut_refiner.specs.declared.candidates.Candidate.{Candidate}
 use Rattle.cut_refiner.specs.Candidates.{is_tried_before, IsFirst}
-use Rattle.cut_refiner.specs.Fronts.{missing_of}
-use Rattle.cut_refiner.specs.Courses.{IsCandidate, times_of, is_among, is_ready, IsWaiting, ArePassed}
+use Rattle.cut_refiner.specs.GrowingCuts.{missing_of}
+use Rattle.round_laws.specs.Among.{is_among}
+use Rattle.cut_refiner.specs.RefinementStates.{IsCandidate, times_of, is_ready, IsWaiting, ArePassed}
 use Rattle.cut_refiner.proofs.CandidateLaws.{nodes_in_order}
-use Rattle.cut_refiner.proofs.AmongLaws.{among_both, IsSplit, split_among, each_among, each_listed, not_behind}
+use Rattle.round_laws.specs.Among.{among_both, IsSplit, split_among, each_among, each_listed, not_behind}
 
 -- ---- how often a node is a candidate
 

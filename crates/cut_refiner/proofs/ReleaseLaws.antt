@@ -14,7 +14,8 @@ use Rattle.round_model.specs.Order.{Rules, score, level, node_order}
 use Rattle.round_model.specs.Rounds.{is_wanted}
 use Rattle.frame_laws.specs.Each.{each_from_places}
 use Rattle.cut_refiner.specs.declared.candidates.Candidate.{Candidate}
-use Rattle.cut_refiner.specs.Courses.{IsCandidate, times_of, is_among, is_ready, IsWaiting}
+use Rattle.round_laws.specs.Among.{is_among}
+use Rattle.cut_refiner.specs.RefinementStates.{IsCandidate, times_of, is_ready, IsWaiting}
 use Rattle.cut_refiner.proofs.ReadyLaws.{times_cons, times_none, times_permuted, one_of_same, one_of_apart, is_free, node_in_rest}
 
 -- a node that misses a patch is no candidate

@@ -6,8 +6,8 @@ use Rattle.std.proofs.lemmas.List.Sums.{sum_by-cons, sum_by-append}
 use Rattle.file_model.specs.declared.fields.Try.{Try}
 use Rattle.mesh_model.specs.Graph.{outgoing}
 use Rattle.round_model.specs.Order.{Rules, comes_before, node_order}
-use Rattle.round_model.specs.Tries.{is_odd}
-use Rattle.round_model.specs.Rounds.{Hand, Stand, with_member, is_tried, round_from, root_set, round_of, epochs_of, patches_of}
+use Rattle.file_model.specs.Tries.{is_odd}
+use Rattle.round_model.specs.Rounds.{NodeInProgress, RoundState, with_member, is_tried, round_from, root_set, round_of, epochs_of, patches_of}
 use Rattle.round_laws.specs.Before.{before_never_itself}
 use Rattle.round_laws.specs.Ascending.{Ascends, order_ascends}
 use Rattle.round_laws.specs.Answers.{try_of}
@@ -15,11 +15,12 @@ use Rattle.round_laws.specs.Epochs.{StandsAt, round_stands}
 use Rattle.round_laws.specs.Steps.{after_refusal, after_grant, after_last_grant}
 use Rattle.round_laws.specs.Passing.{passes, begins_at, has_first_patch}
 use Rattle.round_laws.specs.Cuts.{inner_no_sink}
-use Rattle.cut_refiner.specs.declared.courses.Course.{Course}
-use Rattle.cut_refiner.specs.declared.fronts.Front.{Front}
-use Rattle.cut_refiner.specs.Courses.{is_among, IsGoing, IsFound, IsNext, ArePassed}
+use Rattle.cut_refiner.specs.declared.refinement_states.RefinementState.{RefinementState}
+use Rattle.cut_refiner.specs.declared.growing_cuts.GrowingCut.{GrowingCut}
+use Rattle.round_laws.specs.Among.{is_among}
+use Rattle.cut_refiner.specs.RefinementStates.{IsGoing, IsFound, IsNext, ArePassed}
 use Rattle.cut_refiner.specs.Refiners.{degree, IsThrough, IsTrying, IsAt}
-use Rattle.cut_refiner.proofs.AmongLaws.{each_among, middle_among}
+use Rattle.round_laws.specs.Among.{each_among, middle_among}
 use Rattle.cut_refiner.proofs.OrderLaws.{inner_of_order}
 
 -- ---- what follows a node of the order is one list
@@ -66,9 +67,9 @@ through_from rules tries set rest between passed = record {
       ∙ through_at rules set tries;
 }
 
-trying_from : (rules : Rules) (tries : List Try) (course : Course) (node granted : ℕ) (gone rest : List ℕ) → IsBetween rules tries course.front.in_cut.items rest → node_order rules ≡ gone ++ rest → IsFound rules rest course node → granted ≡ 0 → length tries + sum_by (degree rules) rest ≤ length rules.mesh.index.fields → IsTrying rules tries course node granted
-trying_from rules tries course node granted gone rest between order found none few =
-    let set = course.front.in_cut.items in
+trying_from : (rules : Rules) (tries : List Try) (refinement : RefinementState) (node granted : ℕ) (gone rest : List ℕ) → IsBetween rules tries refinement.growing.in_cut.items rest → node_order rules ≡ gone ++ rest → IsFound rules rest refinement node → granted ≡ 0 → length tries + sum_by (degree rules) rest ≤ length rules.mesh.index.fields → IsTrying rules tries refinement node granted
+trying_from rules tries refinement node granted gone rest between order found none few =
+    let set = refinement.growing.in_cut.items in
     let order' = order ∙ ap (λ (vs : List ℕ). gone ++ vs) found.split ∙ sym (append_assoc gone found.passed (node ∷ found.later)) in
     let inner = inner_of_order rules node (ap (λ (vs : List ℕ). is_among vs node) order' ∙ middle_among (gone ++ found.passed) found.later node) in
     let first = has_first_patch rules.mesh.index.fields node (inner_no_sink rules.mesh.index.fields node inner.inner) in
@@ -90,11 +91,11 @@ trying_from rules tries course node granted gone rest between order found none f
     }
 
 -- the round stands at the first patch of the next node, or is through
-pub settled : (rules : Rules) (tries : List Try) (rest : List ℕ) (old new : Course) (granted : ℕ) (hand : Option ℕ) → granted ≡ 0 → IsBetween rules tries old.front.in_cut.items rest → IsGoing rules rest old → new.front ≡ old.front → IsNext rules rest new hand → length tries + sum_by (degree rules) rest ≤ length rules.mesh.index.fields → IsAt rules tries new granted hand
+pub settled : (rules : Rules) (tries : List Try) (rest : List ℕ) (old new : RefinementState) (granted : ℕ) (hand : Option ℕ) → granted ≡ 0 → IsBetween rules tries old.growing.in_cut.items rest → IsGoing rules rest old → new.growing ≡ old.growing → IsNext rules rest new hand → length tries + sum_by (degree rules) rest ≤ length rules.mesh.index.fields → IsAt rules tries new granted hand
 settled rules tries rest old new granted None none between going same next few =
-    through_from rules tries new.front.in_cut.items rest (subst (λ (front : Front). IsBetween rules tries front.in_cut.items rest) (sym same) between) next
+    through_from rules tries new.growing.in_cut.items rest (subst (λ (growing : GrowingCut). IsBetween rules tries growing.in_cut.items rest) (sym same) between) next
 settled rules tries rest old new granted (Some node) none between going same next few =
-    trying_from rules tries new node granted going.gone rest (subst (λ (front : Front). IsBetween rules tries front.in_cut.items rest) (sym same) between) going.order next none few
+    trying_from rules tries new node granted going.gone rest (subst (λ (growing : GrowingCut). IsBetween rules tries growing.in_cut.items rest) (sym same) between) going.order next none few
 
 -- ---- an answer
 
@@ -102,18 +103,18 @@ epochs_more : (tries : List Try) (patch epoch : ℕ) (more : List ℕ) → epoch
 epochs_more tries patch epoch more =
     ap (λ (es : List ℕ). es ++ more) (map-append (λ (t : Try). t.epoch) tries (try_of patch epoch ∷ [])) ∙ append_assoc (epochs_of tries) (epoch ∷ []) more
 
-module _ (rules : Rules) (tries : List Try) (course : Course) (node granted : ℕ) (trying : IsTrying rules tries course node granted) where
+module _ (rules : Rules) (tries : List Try) (refinement : RefinementState) (node granted : ℕ) (trying : IsTrying rules tries refinement node granted) where
   abbrev set : List Bool
-  set = course.front.in_cut.items
+  set = refinement.growing.in_cut.items
 
-  abbrev hand : Hand
+  abbrev hand : NodeInProgress
   hand = trying.hand
 
-  abbrev stand : Stand
+  abbrev stand : RoundState
   stand = round_of rules (epochs_of tries)
 
   at : StandsAt rules (node_order rules) (root_set rules) [] (epochs_of tries) stand hand
-  at = round_stands rules (epochs_of tries) hand (ap (λ (s : Stand). s.at) trying.stand)
+  at = round_stands rules (epochs_of tries) hand (ap (λ (s : RoundState). s.at) trying.stand)
 
   abbrev arcs : List ℕ
   arcs = outgoing rules.mesh.index.fields node
@@ -149,10 +150,10 @@ module _ (rules : Rules) (tries : List Try) (course : Course) (node granted : �
       same_rest rules node at.gone trying.gone at.rest trying.rest (subst (Ascends rules) nodes (order_ascends rules)) (sym nodes ∙ trying.order)
 
   set_is : stand.set ≡ set
-  set_is = ap (λ (s : Stand). s.set) trying.stand
+  set_is = ap (λ (s : RoundState). s.set) trying.stand
 
   tries_are : stand.tries ≡ tries
-  tries_are = ap (λ (s : Stand). s.tries) trying.stand
+  tries_are = ap (λ (s : RoundState). s.tries) trying.stand
 
   pub is_tried_here : is_tried rules set node ≡ true
   is_tried_here = ap (λ v. is_tried rules set v) (sym trying.node_is) ∙ ap (λ (s : List Bool). is_tried rules s hand.node) (sym set_is) ∙ at.tried
@@ -196,7 +197,7 @@ module _ (rules : Rules) (tries : List Try) (course : Course) (node granted : �
   few_after epoch = omega (arith, length-append tries (try_of (get_or arcs granted 0) epoch ∷ []), trying.most, granted_within)
 
   -- the next patch of the node is tried
-  next_stands : (epoch next : ℕ) (later : List ℕ) → is_odd epoch ≡ true → at.later ≡ next ∷ later → IsTrying rules (answered epoch) course node (granted + 1)
+  next_stands : (epoch next : ℕ) (later : List ℕ) → is_odd epoch ≡ true → at.later ≡ next ∷ later → IsTrying rules (answered epoch) refinement node (granted + 1)
   next_stands epoch next later odd more = record {
     hand = record { node = hand.node; granted = hand.granted ++ try_of hand.patch epoch ∷ []; patch = next };
     stand = ap (round_of rules) (sym (append-nil (epochs_of (answered epoch)))) ∙ steps epoch []
@@ -213,9 +214,9 @@ module _ (rules : Rules) (tries : List Try) (course : Course) (node granted : �
     most = omega (arith, length-append tries (try_of (get_or arcs granted 0) epoch ∷ []), trying.most, granted_within);
   }
 
-  pub granted_next : (epoch : ℕ) → is_odd epoch ≡ true → granted + 1 < length arcs → IsTrying rules (answered epoch) course node (granted + 1)
+  pub granted_next : (epoch : ℕ) → is_odd epoch ≡ true → granted + 1 < length arcs → IsTrying rules (answered epoch) refinement node (granted + 1)
   granted_next epoch odd more = of_later at.later refl
     where
-      of_later : (later : List ℕ) → at.later ≡ later → IsTrying rules (answered epoch) course node (granted + 1)
+      of_later : (later : List ℕ) → at.later ≡ later → IsTrying rules (answered epoch) refinement node (granted + 1)
       of_later [] e = absurd (let none = ap length e in omega (arith, many))
       of_later (q ∷ qs) e = next_stands epoch q qs odd e

@@ -3,7 +3,7 @@ use Rattle.std.proofs.Common.{◌≡◌, ℕ, List, length, ◌∙◌, ap, subst
 use Rattle.mesh_model.specs.Meshes.{MeshLists, IsMesh}
 use Rattle.round_model.specs.Order.{Rules}
 use Rattle.round_laws.specs.Parents.{FallsAlong}
-use Rattle.error_metric.specs.Wants.{rules_of}
+use Rattle.round_model.specs.Views.{rules_of}
 use Rattle.cut_refiner.specs.RoundRules.{AreRules}
 
 abbrev kept_rules : MeshLists → List ℕ → ℕ → ℕ → Rules

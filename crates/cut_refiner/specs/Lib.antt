@@ -1,7 +1,7 @@
 pub mod Candidates
 pub mod RoundRules
-pub mod Fronts
-pub mod Courses
+pub mod GrowingCuts
+pub mod RefinementStates
 pub mod CutLists
 pub mod Hands
 pub mod Locks

@@ -3,7 +3,7 @@
 ghost use Rattle.std.specs.Prelude.{ℕ, ◌<◌, ◌≤◌, length};
 ghost use Rattle.mesh_model.specs.Graph.{outgoing};
 
-use dag_check::Mesh;
+use accepted_mesh::Mesh;
 
 /// The greatest number of patches that lead from one node.
 pub fn greatest_degree(mesh: &Mesh) -> usize

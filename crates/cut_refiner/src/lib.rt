@@ -5,14 +5,13 @@
 //! outside the cut, so that no step goes over the nodes or the patches.
 #![tactic(auto)]
 
-mod answers;
 mod candidates;
-mod courses;
 mod cut_lists;
 mod degrees;
-mod fronts;
+mod growing_cuts;
 mod hands;
 mod locks;
+mod refinement_states;
 mod refiners;
 mod round_rules;
 

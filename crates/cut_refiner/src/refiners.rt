@@ -1,15 +1,14 @@
 //! A round, step by step.
 
-use crate::answers::is_granted;
-use crate::courses::Course;
 use crate::cut_lists::CutLists;
 use crate::degrees::greatest_degree;
 use crate::hands::go_on;
 use crate::locks::Locks;
+use crate::refinement_states::RefinementState;
 use crate::round_rules::RoundRules;
-use dag_check::Mesh;
+use accepted_mesh::Mesh;
 use error_metric::Want;
-use file_model::Try;
+use file_model::{Try, is_granted};
 use grid_vertex::NoMemory;
 use round_model::Ask;
 use std::alloc::Global;
@@ -20,7 +19,7 @@ use std::marker::Model;
 #[derive(Drop)]
 pub struct Refiner<'m> {
     rules: RoundRules<'m>,
-    course: Course,
+    refinement: RefinementState,
     hand: Option<u32>,
     locks: Locks,
     tries: Vec<Try>,
@@ -36,7 +35,7 @@ impl<'m> Model for Refiner<'m> {
 
     ghost view = { λ r. record { rules = r.rules; tries = r.tries.items; owed = r.locks.owed } };
 
-    ghost invariant = { λ r. IsRefiner r.rules r.tries r.course r.lists r.locks r.hand };
+    ghost invariant = { λ r. IsRefiner r.rules r.tries r.refinement r.lists r.locks r.hand };
 }
 
 impl<'m> Refiner<'m> {
@@ -46,10 +45,10 @@ impl<'m> Refiner<'m> {
     ghost use Rattle.mesh_model.specs.Frames.{IsCut};
     ghost use Rattle.mesh_model.specs.Accepted.{IsAccepted, triangles_out_of};
     ghost use Rattle.round_model.specs.Rounds.{has, IsWhole};
-    ghost use Rattle.round_model.specs.Refiners.{stand_of, asked, told, gave, cut_of, cut_patches};
+    ghost use Rattle.round_model.specs.Refiners.{round_state, pending_ask, after_answer, after_release, cut_of, cut_patches};
     ghost use Rattle.round_model.specs.declared.asks.Ask.TheVariants.{Lock, GiveBack, Done};
     ghost use Rattle.frame_laws.specs.Frames.{frame_of_set};
-    ghost use Rattle.error_metric.specs.Wants.{rules_of};
+    ghost use Rattle.round_model.specs.Views.{rules_of};
 
     /// A round at its start, in which a frame with more than `limit` triangles is not refined to. Only
     /// this call takes memory.
@@ -72,11 +71,11 @@ impl<'m> Refiner<'m> {
             index.patch_count() as usize,
         )?;
         let locks = Locks::with_room(alloc, greatest_degree(rules.mesh()))?;
-        let mut course = Course::begin(alloc, &rules)?;
-        let hand = go_on(&rules, &mut course, &mut lists);
+        let mut refinement = RefinementState::begin(alloc, &rules)?;
+        let hand = go_on(&rules, &mut refinement, &mut lists);
         Ok(Refiner {
             rules,
-            course,
+            refinement,
             hand,
             locks,
             tries,
@@ -86,8 +85,8 @@ impl<'m> Refiner<'m> {
 
     /// What comes next.
     pub fn ask(&self) -> Ask
-        ensures asked { result ≡ asked self.now }
-        ensures whole { result ≡ Done → IsWhole (stand_of self.now) }
+        ensures asked { result ≡ pending_ask self.now }
+        ensures whole { result ≡ Done → IsWhole (round_state self.now) }
         // Where a patch is asked for, fewer were tried than there are.
         ensures room { (patch : ℕ) → result ≡ Lock patch → length self.now.tries < length self.now.rules.mesh.index.fields }
     {
@@ -102,8 +101,8 @@ impl<'m> Refiner<'m> {
 
     /// Takes the answer to the try that is asked for: its epoch. Condition: `ask` gives `Lock`.
     pub fn tell(&mut self, epoch: u32)
-        requires { (patch : ℕ) × (asked self.old ≡ Lock patch) }
-        ensures { (patch : ℕ) → asked self.old ≡ Lock patch → self.new ≡ told self.old patch epoch }
+        requires { (patch : ℕ) × (pending_ask self.old ≡ Lock patch) }
+        ensures { (patch : ℕ) → pending_ask self.old ≡ Lock patch → self.new ≡ after_answer self.old patch epoch }
     {
         let node = match self.hand {
             Some(node) => node,
@@ -114,7 +113,7 @@ impl<'m> Refiner<'m> {
         self.tries.push_reserved(Try { patch, epoch });
         if !is_granted(epoch) {
             self.locks.owe();
-            self.hand = go_on(&self.rules, &mut self.course, &mut self.lists);
+            self.hand = go_on(&self.rules, &mut self.refinement, &mut self.lists);
             return;
         }
         self.locks.add(patch);
@@ -122,14 +121,14 @@ impl<'m> Refiner<'m> {
             return;
         }
         self.locks.keep();
-        self.course.join(&self.rules, node);
-        self.hand = go_on(&self.rules, &mut self.course, &mut self.lists);
+        self.refinement.join(&self.rules, node);
+        self.hand = go_on(&self.rules, &mut self.refinement, &mut self.lists);
     }
 
     /// The patch that is asked for was given back. Condition: `ask` gives `GiveBack`.
     pub fn gave_back(&mut self)
-        requires { (patch : ℕ) × (asked self.old ≡ GiveBack patch) }
-        ensures { self.new ≡ gave self.old }
+        requires { (patch : ℕ) × (pending_ask self.old ≡ GiveBack patch) }
+        ensures { self.new ≡ after_release self.old }
     {
         self.locks.give_back();
     }
@@ -137,16 +136,16 @@ impl<'m> Refiner<'m> {
     /// All answers so far, in the order of the tries.
     pub fn tries(&self) -> &[Try]
         ensures value { result.now ≡ self.now.tries }
-        ensures round { result.now ≡ (stand_of self.now).tries }
+        ensures round { result.now ≡ (round_state self.now).tries }
     {
         &self.tries
     }
 
     /// The nodes of the cut, ascending. Condition: `ask` gives `Done`.
     pub fn cut(&self) -> &[u32]
-        requires { asked self.now ≡ Done }
+        requires { pending_ask self.now ≡ Done }
         ensures nodes { result.now ≡ cut_of self.now }
-        ensures cut { IsCut self.now.rules.mesh.index.fields self.now.rules.mesh.root (has (stand_of self.now).set) }
+        ensures cut { IsCut self.now.rules.mesh.index.fields self.now.rules.mesh.root (has (round_state self.now).set) }
         ensures few { length result.now ≤ 65536 }
     {
         &self.lists.nodes
@@ -154,9 +153,9 @@ impl<'m> Refiner<'m> {
 
     /// The patches of the cut's frame, ascending. Condition: `ask` gives `Done`.
     pub fn patches(&self) -> &[u32]
-        requires { asked self.now ≡ Done }
+        requires { pending_ask self.now ≡ Done }
         ensures patches { result.now ≡ cut_patches self.now }
-        ensures boundary { (file : FileLists) → IsAccepted file self.now.rules.mesh.root → file.index ≡ self.now.rules.mesh.index → HaveOneNet (frame_of_set file (has (stand_of self.now).set)) (triangles_out_of file self.now.rules.mesh.root) }
+        ensures boundary { (file : FileLists) → IsAccepted file self.now.rules.mesh.root → file.index ≡ self.now.rules.mesh.index → HaveOneNet (frame_of_set file (has (round_state self.now).set)) (triangles_out_of file self.now.rules.mesh.root) }
         ensures few { length result.now ≤ 65536 }
     {
         &self.lists.patches

@@ -1,7 +1,7 @@
 //! What a round keeps to.
 
 use crate::candidates::Candidate;
-use dag_check::Mesh;
+use accepted_mesh::Mesh;
 use error_metric::Want;
 use grid_vertex::NoMemory;
 use std::alloc::Global;
@@ -31,7 +31,7 @@ impl<'m> Model for RoundRules<'m> {
 
 impl<'m> RoundRules<'m> {
     ghost use Rattle.std.specs.Prelude.{◌≡◌, ◌<◌, length, IfOk, nat_le};
-    ghost use Rattle.error_metric.specs.Wants.{rules_of};
+    ghost use Rattle.round_model.specs.Views.{rules_of};
     ghost use Rattle.round_model.specs.Order.{score, level};
     ghost use Rattle.round_model.specs.Rounds.{is_wanted};
     ghost use Rattle.cut_refiner.specs.RoundRules.{AreRules};

@@ -1,10 +1,11 @@
 //! Rounds whose answers are given: what is asked, and the cut that they give.
 
 use super::*;
-use dag_check::{Mesh, check};
+use accepted_mesh::Mesh;
 use error_metric::View;
 use file_model::Try;
 use grid_vertex::Point;
+use mesh_graph::MeshGraph;
 use patch_file::read_index;
 use std::alloc::Global;
 use std::process::Abort;
@@ -19,7 +20,12 @@ fn mesh_of(alloc: Global, digits: &str) -> Result<Mesh, Fail> {
     let file = NamedFile::new(String::from_str(alloc, "Q")?, bytes_of(alloc, digits)?);
     let mut store = MemoryStore::new(vec![in alloc; file]?, Vec::new(alloc), Vec::new(alloc));
     let index = read_index(alloc, &mut store, 0)?;
-    Ok(check(alloc, index, &mut store, 0)?)
+    let _patches = index.patch_count();
+    let graph = MeshGraph::of(alloc, index.nodes(), index.fields())?;
+    match graph.verdict() {
+        Ok(root) => Ok(Mesh::with(index, graph, root, 0)),
+        Err(_) => Err(Fail::from("no root")),
+    }
 }
 
 fn view(eye: [i32; 3], focal: u32, threshold: u32, limit: u32) -> Result<View, Fail> {

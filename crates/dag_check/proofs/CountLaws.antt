@@ -14,7 +14,7 @@ use Rattle.mesh_model.specs.Accepted.{is_inner}
 use Rattle.mesh_model.specs.Frames.{triangles_where}
 use Rattle.dag_check.specs.declared.sides.Side.{Side}
 use Rattle.dag_check.specs.declared.sides.Side.TheVariants.{Incoming, Outgoing}
-use Rattle.dag_check.specs.Tracks.{how_many, is_on, Taken, taken_on, taken_both, one_more, to_come}
+use Rattle.dag_check.specs.NodeSums.{how_many, is_on, Taken, taken_on, taken_both, one_more, to_come}
 
 pub how_many-cons : {X : Type 0} → (test : X → Bool) (x : X) (xs : List X) → how_many test (x ∷ xs) ≡ one_if (test x) + how_many test xs
 unfolding how_many

@@ -17,13 +17,13 @@ use Rattle.mesh_model.specs.Accepted.{IsAccepted, IsNestedGraph, IsGraphFault, I
 use Rattle.mesh_graph.specs.Graphs.{IsVerdict}
 use Rattle.mesh_graph.specs.ListReads.{slice_get-there}
 use Rattle.edge_chain.specs.Chains.{IsNetOf}
-use Rattle.dag_check.specs.declared.tracks.Track.{Track}
-use Rattle.dag_check.specs.declared.gaps.Gap.{Gap}
+use Rattle.dag_check.specs.declared.node_sums.NodeSums.{NodeSums}
+use Rattle.dag_check.specs.declared.borders.BorderDifference.{BorderDifference}
 use Rattle.dag_check.specs.declared.sides.Side.TheVariants.{Incoming, Outgoing}
 use Rattle.dag_check.specs.Added.{first_triangles, file_with}
-use Rattle.dag_check.specs.Gaps.{border_of, IsLeastGap, HasGap}
-use Rattle.dag_check.specs.Tracks.{how_many, is_on, taken_both, to_come}
-use Rattle.dag_check.specs.Tallies.{TallySeen, IsTally, IsCompared}
+use Rattle.dag_check.specs.Borders.{border_of, IsLeastBorder, HasBorderDifference}
+use Rattle.dag_check.specs.NodeSums.{how_many, is_on, taken_both, to_come}
+use Rattle.dag_check.specs.AllNodeSums.{AllSumsSeen, AreAllSums, IsCompared}
 use Rattle.dag_check.specs.Checkers.{CheckerSeen, IsChecker, Follows}
 use Rattle.dag_check.proofs.AddedLaws.{along}
 
@@ -52,13 +52,13 @@ nothing_left true left patches e d = e ∙ d
 nothing_left false left patches e d = e
 
 -- once all bodies were added, each node was compared
-all_compared : (index : IndexLists) (n : ℕ) (tally : TallySeen) → n ≡ length index.fields → IsTally index (taken_both n) tally → (v : ℕ) → v < length index.nodes → IsCompared tally.tracks v
-all_compared index n tally e is v low =
-    let there = slice_get-there tally.tracks v (omega (arith, is.as_many)) in
+all_compared : (index : IndexLists) (n : ℕ) (all_sums : AllSumsSeen) → n ≡ length index.fields → AreAllSums index (taken_both n) all_sums → (v : ℕ) → v < length index.nodes → IsCompared all_sums.node_sums v
+all_compared index n all_sums e is v low =
+    let there = slice_get-there all_sums.node_sums v (omega (arith, is.as_many)) in
     record {
-      track = there.0;
+      sums_at = there.0;
       there = there.1;
-      done = nothing_left (is_inner index.fields v) there.0.left (to_come index.fields (taken_both n) v) (is.are_tracks v there.0 there.1).left
+      done = nothing_left (is_inner index.fields v) there.0.left (to_come index.fields (taken_both n) v) (is.are_node_sums v there.0 there.1).left
           (omega (arith, none_past (is_on Incoming v) n index.fields e, none_past (is_on Outgoing v) n index.fields e));
     }
 
@@ -68,43 +68,43 @@ pub record Decided (checker : CheckerSeen) (root : ℕ) : Type 0 where
   pub verdict : checker.graph.verdict ≡ Ok root
   pub all : checker.next ≡ length checker.index.fields
 
-compared_within : (tracks : List Track) (v : ℕ) → IsCompared tracks v → v < length tracks
-compared_within tracks v h = slice_get_within tracks v h.track h.there
+compared_within : (node_sums : List NodeSums) (v : ℕ) → IsCompared node_sums v → v < length node_sums
+compared_within node_sums v h = slice_get_within node_sums v h.sums_at h.there
 
--- the least gap is the mesh's fault
-gap_fault : (checker : CheckerSeen) (root : ℕ) (bodies : List BodyLists) (gap : Gap) → Decided checker root → IsLeastGap (file_with checker.index bodies) (IsCompared checker.tally.tracks) gap → IsMeshFault (file_with checker.index bodies) (Border gap.node gap.difference.a gap.difference.b gap.difference.here gap.difference.there)
-gap_fault checker root bodies gap decided h =
-    let node_within : gap.node < length checker.index.nodes = omega (arith, compared_within checker.tally.tracks gap.node h.compared, decided.is_checker.tally.as_many) in (
+-- the least border difference is the mesh's fault
+border_fault : (checker : CheckerSeen) (root : ℕ) (bodies : List BodyLists) (border_found : BorderDifference) → Decided checker root → IsLeastBorder (file_with checker.index bodies) (IsCompared checker.all_sums.node_sums) border_found → IsMeshFault (file_with checker.index bodies) (Border border_found.node border_found.difference.a border_found.difference.b border_found.difference.here border_found.difference.there)
+border_fault checker root bodies border_found decided h =
+    let node_within : border_found.node < length checker.index.nodes = omega (arith, compared_within checker.all_sums.node_sums border_found.node h.compared, decided.is_checker.all_sums.as_many) in (
       root,
       verdict_ok checker root decided.is_checker decided.verdict,
       record {
         node = node_within;
         inner = h.inner;
-        earlier = λ u low. h.least u low (all_compared checker.index checker.next checker.tally decided.all decided.is_checker.tally u (omega arith));
+        earlier = λ u low. h.least u low (all_compared checker.index checker.next checker.all_sums decided.all decided.is_checker.all_sums u (omega arith));
         differs = record { forward = h.differs.forward; differs = λ same. h.differs.differs (sym h.differs.here_is ∙ same ∙ h.differs.there_is); least = h.differs.least };
       },
       h.differs.here_is,
       h.differs.there_is,
     )
 
-border_err : (checker : CheckerSeen) (root : ℕ) (bodies : List BodyLists) (fault : DagFault) (found : Option Gap) → Decided checker root → border_of found ≡ Err fault → HasGap (file_with checker.index bodies) (IsCompared checker.tally.tracks) found → IsMeshFault (file_with checker.index bodies) fault
+border_err : (checker : CheckerSeen) (root : ℕ) (bodies : List BodyLists) (fault : DagFault) (found : Option BorderDifference) → Decided checker root → border_of found ≡ Err fault → HasBorderDifference (file_with checker.index bodies) (IsCompared checker.all_sums.node_sums) found → IsMeshFault (file_with checker.index bodies) fault
 border_err checker root bodies fault None decided e h = absurd cc
-border_err checker root bodies fault (Some gap) decided e h =
-    let same : Border gap.node gap.difference.a gap.difference.b gap.difference.here gap.difference.there ≡ fault = cc in
-    subst (IsMeshFault (file_with checker.index bodies)) same (gap_fault checker root bodies gap decided h)
+border_err checker root bodies fault (Some border_found) decided e h =
+    let same : Border border_found.node border_found.difference.a border_found.difference.b border_found.difference.here border_found.difference.there ≡ fault = cc in
+    subst (IsMeshFault (file_with checker.index bodies)) same (border_fault checker root bodies border_found decided h)
 
-border_ok : (checker : CheckerSeen) (root : ℕ) (bodies : List BodyLists) (found : Option Gap) → Decided checker root → border_of found ≡ Ok tt → HasGap (file_with checker.index bodies) (IsCompared checker.tally.tracks) found → IsAccepted (file_with checker.index bodies) root
+border_ok : (checker : CheckerSeen) (root : ℕ) (bodies : List BodyLists) (found : Option BorderDifference) → Decided checker root → border_of found ≡ Ok tt → HasBorderDifference (file_with checker.index bodies) (IsCompared checker.all_sums.node_sums) found → IsAccepted (file_with checker.index bodies) root
 border_ok checker root bodies None decided e h = record {
   graph = verdict_ok checker root decided.is_checker decided.verdict;
-  nets = λ v low. h v (all_compared checker.index checker.next checker.tally decided.all decided.is_checker.tally v low);
+  nets = λ v low. h v (all_compared checker.index checker.next checker.all_sums decided.all decided.is_checker.all_sums v low);
 }
-border_ok checker root bodies (Some gap) decided e h = absurd cc
+border_ok checker root bodies (Some border_found) decided e h = absurd cc
 
-pub finish_err : (checker : CheckerSeen) (root : ℕ) (fault : DagFault) (bodies : List BodyLists) → Decided checker root → border_of checker.tally.gap ≡ Err fault → Follows checker bodies → IsMeshFault (file_with checker.index bodies) fault
-finish_err checker root fault bodies decided e h = border_err checker root bodies fault checker.tally.gap decided e h.tally.gap
+pub finish_err : (checker : CheckerSeen) (root : ℕ) (fault : DagFault) (bodies : List BodyLists) → Decided checker root → border_of checker.all_sums.border_found ≡ Err fault → Follows checker bodies → IsMeshFault (file_with checker.index bodies) fault
+finish_err checker root fault bodies decided e h = border_err checker root bodies fault checker.all_sums.border_found decided e h.all_sums.border_found
 
-pub finish_ok : (checker : CheckerSeen) (root : ℕ) (bodies : List BodyLists) → Decided checker root → border_of checker.tally.gap ≡ Ok tt → Follows checker bodies → IsAccepted (file_with checker.index bodies) root
-finish_ok checker root bodies decided e h = border_ok checker root bodies checker.tally.gap decided e h.tally.gap
+pub finish_ok : (checker : CheckerSeen) (root : ℕ) (bodies : List BodyLists) → Decided checker root → border_of checker.all_sums.border_found ≡ Ok tt → Follows checker bodies → IsAccepted (file_with checker.index bodies) root
+finish_ok checker root bodies decided e h = border_ok checker root bodies checker.all_sums.border_found decided e h.all_sums.border_found
 
 -- the first patches are all where as many were added
 all_triangles : (n : ℕ) (test : PatchField → Bool) (fields : List PatchField) (bodies : List BodyLists) → n ≡ length fields → first_triangles n test fields bodies ≡ triangles_where test fields bodies

@@ -11,7 +11,7 @@ use Rattle.mesh_model.specs.Graph.{incoming, outgoing, leads_to, leads_from}
 use Rattle.mesh_graph.specs.NearGrid.{each_passes}
 use Rattle.mesh_graph.specs.Graphs.{GraphSeen, IsGraphOf, index_of}
 use Rattle.dag_check.specs.declared.sides.Side.TheVariants.{Incoming, Outgoing}
-use Rattle.dag_check.specs.Tracks.{how_many, is_on}
+use Rattle.dag_check.specs.NodeSums.{how_many, is_on}
 use Rattle.dag_check.proofs.CountLaws.{length-patches, how_many-le}
 
 -- the patch leads from a node to a node

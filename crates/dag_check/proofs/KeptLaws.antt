@@ -12,15 +12,15 @@ use Rattle.edge_chain.specs.Chains.{Chain, IsNetOf}
 use Rattle.edge_chain.specs.NetLaws.{open_from_net}
 use Rattle.dag_check.specs.declared.sides.Side.{Side}
 use Rattle.dag_check.specs.declared.sides.Side.TheVariants.{Incoming, Outgoing}
-use Rattle.dag_check.specs.declared.tracks.Track.{Track}
+use Rattle.dag_check.specs.declared.node_sums.NodeSums.{NodeSums}
 use Rattle.dag_check.specs.Added.{first_triangles}
 use Rattle.dag_check.specs.Open.{AreKept, KeepsPairs}
-use Rattle.dag_check.specs.Tracks.{is_on, taken_on, taken_both, chain_on, is_under_way, AreDropped}
-use Rattle.dag_check.specs.Tallies.{TallySeen, IsTally, TallyFollows}
+use Rattle.dag_check.specs.NodeSums.{is_on, taken_on, taken_both, chain_on, is_under_way, AreDropped}
+use Rattle.dag_check.specs.AllNodeSums.{AllSumsSeen, AreAllSums, AllSumsFollow}
 use Rattle.dag_check.proofs.OpenLaws.{open_same}
 
 -- how many pairs a node's sum on a side keeps
-abbrev kept_on : Side → Track → ℕ
+abbrev kept_on : Side → NodeSums → ℕ
 kept_on side t = length (chain_on side t).entries
 
 -- what stands in a list of what each element gives
@@ -34,41 +34,41 @@ map_read f [] v k e = absurd cc
 map_read f (x ∷ xs) zero k e = record { element = x; there = refl; gives = cc }
 map_read f (x ∷ xs) (suc v) k e = let rest = map_read f xs v k e in record { element = rest.element; there = rest.there; gives = rest.gives }
 
-sum_by-both : (f g : Track → ℕ) (xs : List Track) → sum_by (λ t. f t + g t) xs ≡ sum_by f xs + sum_by g xs
+sum_by-both : (f g : NodeSums → ℕ) (xs : List NodeSums) → sum_by (λ t. f t + g t) xs ≡ sum_by f xs + sum_by g xs
 sum_by-both f g [] = refl
-sum_by-both f g (x ∷ xs) = omega (arith, sum_by-cons (λ (t : Track). f t + g t) x xs, sum_by-cons f x xs, sum_by-cons g x xs, sum_by-both f g xs)
+sum_by-both f g (x ∷ xs) = omega (arith, sum_by-cons (λ (t : NodeSums). f t + g t) x xs, sum_by-cons f x xs, sum_by-cons g x xs, sum_by-both f g xs)
 
 taken_is : (side : Side) (n : ℕ) → taken_on side (taken_both n) ≡ n
 taken_is Incoming n = refl
 taken_is Outgoing n = refl
 
-dropped_on : (side : Side) (t : Track) → AreDropped t → kept_on side t ≡ 0
+dropped_on : (side : Side) (t : NodeSums) → AreDropped t → kept_on side t ≡ 0
 dropped_on Incoming t h = ap (λ (c : Chain). length c.entries) h.incoming
 dropped_on Outgoing t h = ap (λ (c : Chain). length c.entries) h.outgoing
 
-are_kept : (side : Side) (index : IndexLists) (n : ℕ) (bodies : List BodyLists) (tally : TallySeen) → IsTally index (taken_both n) tally → TallyFollows index (taken_both n) bodies tally → AreKept (is_on side) index n bodies (map (kept_on side) tally.tracks)
-are_kept side index n bodies tally is follows = record {
-  as_many = length-map tally.tracks (kept_on side) ∙ is.as_many;
+are_kept : (side : Side) (index : IndexLists) (n : ℕ) (bodies : List BodyLists) (all_sums : AllSumsSeen) → AreAllSums index (taken_both n) all_sums → AllSumsFollow index (taken_both n) bodies all_sums → AreKept (is_on side) index n bodies (map (kept_on side) all_sums.node_sums)
+are_kept side index n bodies all_sums is follows = record {
+  as_many = length-map all_sums.node_sums (kept_on side) ∙ is.as_many;
   open_ones = λ v opens k at.
-      (let given = map_read (kept_on side) tally.tracks v k at in
-      let way : is_under_way given.element ≡ true = sym (open_same index.fields n v given.element (is.are_tracks v given.element given.there)) ∙ opens in
+      (let given = map_read (kept_on side) all_sums.node_sums v k at in
+      let way : is_under_way given.element ≡ true = sym (open_same index.fields n v given.element (is.are_node_sums v given.element given.there)) ∙ opens in
       let low : 0 < given.element.left = ltb-true 0 given.element.left (and_parts (nat_lt 0 given.element.left) (nat_lt given.element.left given.element.total) way).0 in
       record {
         pairs = keys_of (chain_on side given.element).entries;
-        are_open = open_from_net _ _ (subst (λ (m : ℕ). IsNetOf (first_triangles m (is_on side v) index.fields bodies) (chain_on side given.element)) (taken_is side n) (follows.tracks v given.element given.there low side));
+        are_open = open_from_net _ _ (subst (λ (m : ℕ). IsNetOf (first_triangles m (is_on side v) index.fields bodies) (chain_on side given.element)) (taken_is side n) (follows.node_sums v given.element given.there low side));
         number = length-keys_of (chain_on side given.element).entries ∙ given.gives;
       });
   others = λ v closed k at.
-      (let given = map_read (kept_on side) tally.tracks v k at in
-      let rests : is_under_way given.element ≡ false = sym (open_same index.fields n v given.element (is.are_tracks v given.element given.there)) ∙ closed in
-      sym given.gives ∙ dropped_on side given.element ((is.are_tracks v given.element given.there).dropped rests));
+      (let given = map_read (kept_on side) all_sums.node_sums v k at in
+      let rests : is_under_way given.element ≡ false = sym (open_same index.fields n v given.element (is.are_node_sums v given.element given.there)) ∙ closed in
+      sym given.gives ∙ dropped_on side given.element ((is.are_node_sums v given.element given.there).dropped rests));
 }
 
-pub keeps : (index : IndexLists) (n : ℕ) (bodies : List BodyLists) (tally : TallySeen) → IsTally index (taken_both n) tally → TallyFollows index (taken_both n) bodies tally → KeepsPairs index n bodies tally.kept_pairs
-keeps index n bodies tally is follows = record {
-  incoming = map (kept_on Incoming) tally.tracks;
-  outgoing = map (kept_on Outgoing) tally.tracks;
-  in_are = are_kept Incoming index n bodies tally is follows;
-  out_are = are_kept Outgoing index n bodies tally is follows;
-  total = omega (arith, is.kept_pairs, sum_by-both (kept_on Incoming) (kept_on Outgoing) tally.tracks, sum-map (kept_on Incoming) tally.tracks, sum-map (kept_on Outgoing) tally.tracks);
+pub keeps : (index : IndexLists) (n : ℕ) (bodies : List BodyLists) (all_sums : AllSumsSeen) → AreAllSums index (taken_both n) all_sums → AllSumsFollow index (taken_both n) bodies all_sums → KeepsPairs index n bodies all_sums.kept_pairs
+keeps index n bodies all_sums is follows = record {
+  incoming = map (kept_on Incoming) all_sums.node_sums;
+  outgoing = map (kept_on Outgoing) all_sums.node_sums;
+  in_are = are_kept Incoming index n bodies all_sums is follows;
+  out_are = are_kept Outgoing index n bodies all_sums is follows;
+  total = omega (arith, is.kept_pairs, sum_by-both (kept_on Incoming) (kept_on Outgoing) all_sums.node_sums, sum-map (kept_on Incoming) all_sums.node_sums, sum-map (kept_on Outgoing) all_sums.node_sums);
 }

@@ -1,14 +1,13 @@
-pub mod MeshLaws
 pub mod ListLaws
 pub mod AddedLaws
 pub mod CountLaws
 pub mod PairLaws
 pub mod IndexLaws
-pub mod TrackLaws
+pub mod NodeSumLaws
 pub mod FollowLaws
-pub mod GapLaws
+pub mod BorderLaws
 pub mod SumLaws
-pub mod TallyLaws
+pub mod AllSumsLaws
 pub mod StartLaws
 pub mod BodyLaws
 pub mod OpenLaws

@@ -11,10 +11,10 @@ use Rattle.mesh_model.specs.Graph.{numbers_from, leads_to, leads_from}
 use Rattle.mesh_model.specs.Nets.{one_if}
 use Rattle.mesh_model.specs.Accepted.{is_inner}
 use Rattle.dag_check.specs.declared.sides.Side.TheVariants.{Incoming, Outgoing}
-use Rattle.dag_check.specs.declared.tracks.Track.{Track}
+use Rattle.dag_check.specs.declared.node_sums.NodeSums.{NodeSums}
 use Rattle.dag_check.specs.Open.{touches, is_open, open_nodes}
-use Rattle.dag_check.specs.Tracks.{how_many, is_on, taken_both, is_under_way, IsTrack}
-use Rattle.dag_check.specs.Tallies.{TallySeen, IsTally}
+use Rattle.dag_check.specs.NodeSums.{how_many, is_on, taken_both, is_under_way, AreNodeSums}
+use Rattle.dag_check.specs.AllNodeSums.{AllSumsSeen, AreAllSums}
 use Rattle.dag_check.proofs.CountLaws.{how_many-cons, how_many-split, length_step}
 
 either_step : (a b : Bool) (m n : ℕ) → (a || b || nat_lt 0 (m + n)) ≡ nat_lt 0 ((one_if a + m) + (one_if b + n))
@@ -44,24 +44,24 @@ open_by true added left_over total left e d =
     ∙ ap (λ (n : ℕ). nat_lt 0 n && nat_lt n total) (sym d)
 open_by false added left_over total left e d = ap (λ (n : ℕ). nat_lt 0 n && nat_lt n total) (sym d)
 
-pub open_same : (fields : List PatchField) (n v : ℕ) (t : Track) → IsTrack fields (taken_both n) v t → is_open fields n v ≡ is_under_way t
+pub open_same : (fields : List PatchField) (n v : ℕ) (t : NodeSums) → AreNodeSums fields (taken_both n) v t → is_open fields n v ≡ is_under_way t
 open_same fields n v t h =
     ap (λ (b : Bool). is_inner fields v && b && list_any (touches v) (drop n fields)) (any_touches v (take n fields))
     ∙ ap (λ (b : Bool). is_inner fields v && nat_lt 0 (how_many (is_on Incoming v) (take n fields) + how_many (is_on Outgoing v) (take n fields)) && b) (any_touches v (drop n fields))
     ∙ open_by (is_inner fields v) (how_many (is_on Incoming v) (take n fields) + how_many (is_on Outgoing v) (take n fields)) (how_many (is_on Incoming v) (drop n fields) + how_many (is_on Outgoing v) (drop n fields)) t.total t.left
     (h.total ∙ ap (λ (m : ℕ). if is_inner fields v then m else 0) (omega (arith, how_many-split (is_on Incoming v) fields n, how_many-split (is_on Outgoing v) fields n))) h.left
 
--- the numbers that pass are as many as the tracks that do
-count_from : (test : ℕ → Bool) (passes : Track → Bool) (tracks : List Track) (first : ℕ) → ((v : ℕ) (t : Track) → slice_get tracks v ≡ Some t → test (first + v) ≡ passes t) → length (numbers_from first (length tracks) test) ≡ sum_by (λ t. one_if (passes t)) tracks
+-- the numbers that pass are as many as the sums of nodes that do
+count_from : (test : ℕ → Bool) (passes : NodeSums → Bool) (node_sums : List NodeSums) (first : ℕ) → ((v : ℕ) (t : NodeSums) → slice_get node_sums v ≡ Some t → test (first + v) ≡ passes t) → length (numbers_from first (length node_sums) test) ≡ sum_by (λ t. one_if (passes t)) node_sums
 unfolding numbers_from
 count_from test passes [] first h = refl
 count_from test passes (t ∷ ts) first h =
     let here : test first ≡ passes t = ap test (omega arith) ∙ h 0 t refl in
     length_step (test first) first (numbers_from (first + 1) (length ts) test)
-    ∙ omega (arith, ap one_if here, count_from test passes ts (first + 1) (λ v s at. ap test (omega arith) ∙ h (suc v) s at), sum_by-cons (λ (s : Track). one_if (passes s)) t ts)
+    ∙ omega (arith, ap one_if here, count_from test passes ts (first + 1) (λ v s at. ap test (omega arith) ∙ h (suc v) s at), sum_by-cons (λ (s : NodeSums). one_if (passes s)) t ts)
 
-pub open_count : (index : IndexLists) (n : ℕ) (tally : TallySeen) → IsTally index (taken_both n) tally → tally.open_nodes ≡ open_nodes index.fields n (length index.nodes)
-open_count index n tally h =
+pub open_count : (index : IndexLists) (n : ℕ) (all_sums : AllSumsSeen) → AreAllSums index (taken_both n) all_sums → all_sums.open_nodes ≡ open_nodes index.fields n (length index.nodes)
+open_count index n all_sums h =
     h.open_nodes
-    ∙ sym (count_from (is_open index.fields n) is_under_way tally.tracks 0 (λ v t at. ap (is_open index.fields n) (omega arith) ∙ open_same index.fields n v t (h.are_tracks v t at)))
+    ∙ sym (count_from (is_open index.fields n) is_under_way all_sums.node_sums 0 (λ v t at. ap (is_open index.fields n) (omega arith) ∙ open_same index.fields n v t (h.are_node_sums v t at)))
     ∙ ap (λ (k : ℕ). open_nodes index.fields n k) h.as_many

@@ -20,7 +20,7 @@ use Rattle.mesh_model.specs.Nets.{Pair, net, times, edge_times, is_edge, one_if,
 use Rattle.edge_chain.specs.Chains.{is_same_pair}
 use Rattle.edge_chain.specs.Orders.{pair_cmp, pair_cmp_total, pair_cmp_exact, is_same_pair_is}
 use Rattle.edge_chain.specs.Entries.{sorted_from_ascend}
-use Rattle.dag_check.specs.Tracks.{how_many}
+use Rattle.dag_check.specs.NodeSums.{how_many}
 use Rattle.dag_check.proofs.CountLaws.{how_many-cons, any_is}
 
 abbrev pair : Point → Point → Pair

@@ -8,41 +8,41 @@ use Rattle.mesh_model.specs.Nets.{one_if}
 use Rattle.mesh_model.specs.Accepted.{is_inner}
 use Rattle.dag_check.specs.declared.sides.Side.{Side}
 use Rattle.dag_check.specs.declared.sides.Side.TheVariants.{Incoming, Outgoing}
-use Rattle.dag_check.specs.declared.tracks.Track.{Track}
-use Rattle.dag_check.specs.declared.gaps.Gap.{Gap}
+use Rattle.dag_check.specs.declared.node_sums.NodeSums.{NodeSums}
+use Rattle.dag_check.specs.declared.borders.BorderDifference.{BorderDifference}
 use Rattle.dag_check.specs.Added.{file_with}
-use Rattle.dag_check.specs.Gaps.{HasGap}
-use Rattle.dag_check.specs.Tracks.{is_on, taken_on, taken_both, to_come, inner_patches, new_track, chain_on, is_under_way, pairs_of, IsSum, IsTrack, TrackFollows}
-use Rattle.dag_check.specs.Tallies.{TallySeen, IsNew, IsTally, IsCompared, TallyFollows}
+use Rattle.dag_check.specs.Borders.{HasBorderDifference}
+use Rattle.dag_check.specs.NodeSums.{is_on, taken_on, taken_both, to_come, inner_patches, empty_node_sums, chain_on, is_under_way, pairs_of, IsSum, AreNodeSums, NodeSumsFollow}
+use Rattle.dag_check.specs.AllNodeSums.{AllSumsSeen, IsNew, AreAllSums, IsCompared, AllSumsFollow}
 use Rattle.dag_check.proofs.AddedLaws.{first_triangles-zero, along}
 use Rattle.dag_check.proofs.CountLaws.{inner_has}
-use Rattle.dag_check.proofs.TrackLaws.{empty_net, empty_sum}
+use Rattle.dag_check.proofs.NodeSumLaws.{empty_net, empty_sum}
 use Rattle.dag_check.proofs.SumLaws.{sum_by_few}
 
-rests : (n : ℕ) → is_under_way (new_track n) ≡ false
+rests : (n : ℕ) → is_under_way (empty_node_sums n) ≡ false
 rests n = and_right (nat_lt 0 n) (nat_lt n n) (le-ltb n n (omega arith))
 
-new_sums : (n m : ℕ) (s : Side) → IsSum m (chain_on s (new_track n))
+new_sums : (n m : ℕ) (s : Side) → IsSum m (chain_on s (empty_node_sums n))
 new_sums n m Incoming = empty_sum m
 new_sums n m Outgoing = empty_sum m
 
-new_track_is : (fields : List PatchField) (v : ℕ) → IsTrack fields (taken_both 0) v (new_track (inner_patches fields v))
-new_track_is fields v = record {
+new_sums_are : (fields : List PatchField) (v : ℕ) → AreNodeSums fields (taken_both 0) v (empty_node_sums (inner_patches fields v))
+new_sums_are fields v = record {
   total = refl;
   left = refl;
   dropped = λ _. record { incoming = refl; outgoing = refl };
   sums = λ s. new_sums (inner_patches fields v) (taken_on s (taken_both 0)) s;
 }
 
-pub new_is : (index : IndexLists) (tally : TallySeen) → IsNew index tally → IsTally index (taken_both 0) tally
-new_is index tally h = record {
+pub new_is : (index : IndexLists) (all_sums : AllSumsSeen) → IsNew index all_sums → AreAllSums index (taken_both 0) all_sums
+new_is index all_sums h = record {
   as_many = h.as_many;
-  are_tracks = λ v t at. subst (λ (s : Track). IsTrack index.fields (taken_both 0) v s) (sym (h.new_tracks v t at)) (new_track_is index.fields v);
-  open_nodes = omega (arith, h.open_nodes, sum_by_few (λ (t : Track). one_if (is_under_way t)) 0 tally.tracks (λ v t at. omega (arith, ap (λ (s : Track). one_if (is_under_way s)) (h.new_tracks v t at), ap one_if (rests (inner_patches index.fields v)))));
-  kept_pairs = omega (arith, h.kept_pairs, sum_by_few pairs_of 0 tally.tracks (λ v t at. omega (arith, ap pairs_of (h.new_tracks v t at))));
+  are_node_sums = λ v t at. subst (λ (s : NodeSums). AreNodeSums index.fields (taken_both 0) v s) (sym (h.new_node_sums v t at)) (new_sums_are index.fields v);
+  open_nodes = omega (arith, h.open_nodes, sum_by_few (λ (t : NodeSums). one_if (is_under_way t)) 0 all_sums.node_sums (λ v t at. omega (arith, ap (λ (s : NodeSums). one_if (is_under_way s)) (h.new_node_sums v t at), ap one_if (rests (inner_patches index.fields v)))));
+  kept_pairs = omega (arith, h.kept_pairs, sum_by_few pairs_of 0 all_sums.node_sums (λ v t at. omega (arith, ap pairs_of (h.new_node_sums v t at))));
 }
 
-new_holds : (fields : List PatchField) (bodies : List BodyLists) (v n : ℕ) → TrackFollows fields (taken_both 0) bodies v (new_track n)
+new_holds : (fields : List PatchField) (bodies : List BodyLists) (v n : ℕ) → NodeSumsFollow fields (taken_both 0) bodies v (empty_node_sums n)
 new_holds fields bodies v n low Incoming = along (sym (first_triangles-zero (is_on Incoming v) fields bodies)) empty_net
 new_holds fields bodies v n low Outgoing = along (sym (first_triangles-zero (is_on Outgoing v) fields bodies)) empty_net
 
@@ -51,9 +51,9 @@ none_inner : (inner : Bool) (patches left : ℕ) → left ≡ (if inner then pat
 none_inner true patches left e some done here = omega (arith, some here)
 none_inner false patches left e some done here = cc
 
-pub new_follows : (index : IndexLists) (tally : TallySeen) (bodies : List BodyLists) → IsNew index tally → TallyFollows index (taken_both 0) bodies tally
-new_follows index tally bodies h = record {
-  tracks = λ v t at. subst (λ (s : Track). TrackFollows index.fields (taken_both 0) bodies v s) (sym (h.new_tracks v t at)) (new_holds index.fields bodies v (inner_patches index.fields v));
-  gap = subst (λ (g : Option Gap). HasGap (file_with index bodies) (IsCompared tally.tracks) g) (sym h.gap)
-      (λ v compared inner. absurd (none_inner (is_inner index.fields v) (to_come index.fields (taken_both 0) v) compared.track.left (ap (λ (t : Track). t.left) (h.new_tracks v compared.track compared.there)) (inner_has index.fields v) compared.done inner));
+pub new_follows : (index : IndexLists) (all_sums : AllSumsSeen) (bodies : List BodyLists) → IsNew index all_sums → AllSumsFollow index (taken_both 0) bodies all_sums
+new_follows index all_sums bodies h = record {
+  node_sums = λ v t at. subst (λ (s : NodeSums). NodeSumsFollow index.fields (taken_both 0) bodies v s) (sym (h.new_node_sums v t at)) (new_holds index.fields bodies v (inner_patches index.fields v));
+  border_found = subst (λ (g : Option BorderDifference). HasBorderDifference (file_with index bodies) (IsCompared all_sums.node_sums) g) (sym h.border_found)
+      (λ v compared inner. absurd (none_inner (is_inner index.fields v) (to_come index.fields (taken_both 0) v) compared.sums_at.left (ap (λ (t : NodeSums). t.left) (h.new_node_sums v compared.sums_at compared.there)) (inner_has index.fields v) compared.done inner));
 }

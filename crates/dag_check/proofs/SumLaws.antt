@@ -1,4 +1,4 @@
--- How large the counts of a tally can be, and how a body changes them.
+-- How large the counts of all sums can be, and how a body changes them.
 use Rattle.std.specs.Prelude.{◌≡◌, ℕ, suc, ◌+◌, ◌-◌, ◌*◌, ◌≤◌, Bool, true, false, List, [], ◌∷◌, length, slice_get, Some, Option, refl}
 use Rattle.std.specs.List.{sum_by}
 use Rattle.std.specs.Map.{keys_of}
@@ -13,18 +13,18 @@ use Rattle.edge_chain.specs.Chains.{Chain}
 use Rattle.edge_chain.specs.NetLaws.{open_from_net}
 use Rattle.dag_check.specs.declared.sides.Side.{Side}
 use Rattle.dag_check.specs.declared.sides.Side.TheVariants.{Incoming, Outgoing}
-use Rattle.dag_check.specs.declared.tracks.Track.{Track}
-use Rattle.dag_check.specs.Tracks.{taken_on, taken_both, one_more, chain_on, is_under_way, pairs_of, Takes, outer, more, last, IsSum}
-use Rattle.dag_check.specs.Tallies.{TallySeen, under_way, pairs_in_all, IsSummed}
+use Rattle.dag_check.specs.declared.node_sums.NodeSums.{NodeSums}
+use Rattle.dag_check.specs.NodeSums.{taken_on, taken_both, one_more, chain_on, is_under_way, pairs_of, Takes, outer, more, last, IsSum}
+use Rattle.dag_check.specs.AllNodeSums.{AllSumsSeen, under_way, pairs_in_all, IsSummed}
 use Rattle.dag_check.proofs.PairLaws.{few_pairs}
-use Rattle.dag_check.proofs.TrackLaws.{sum_more, grown_sums, settled_sum}
+use Rattle.dag_check.proofs.NodeSumLaws.{sum_more, grown_sums, settled_sum}
 
 -- a chain has six entries for each triangle at most
 few_entries : (chain : Chain) → IsSum 65537 chain → length chain.entries ≤ 6 * 65535 * 65537
 few_entries chain h =
     omega (arith, few_pairs h.triangles (keys_of chain.entries) (open_from_net h.triangles chain h.net), length-keys_of chain.entries, h.net.count, h.few)
 
-pub few_kept : (t : Track) → ((s : Side) → IsSum 65537 (chain_on s t)) → pairs_of t ≤ 12 * 65535 * 65537
+pub few_kept : (t : NodeSums) → ((s : Side) → IsSum 65537 (chain_on s t)) → pairs_of t ≤ 12 * 65535 * 65537
 few_kept t h = omega (arith, few_entries t.incoming (h Incoming), few_entries t.outgoing (h Outgoing))
 
 one_side_more : (side s : Side) → taken_on s (one_more side (taken_both 65536)) ≤ 65537
@@ -38,14 +38,14 @@ both_sides Incoming chain h = h
 both_sides Outgoing chain h = h
 
 -- after a body more the sums are still small
-pub taken_sums : (side : Side) (body : BodyLists) (before after : Track) (difference : Option Difference) → length body.corners ≤ 65535 → Takes side body before after difference → ((s : Side) → IsSum 65536 (chain_on s before)) → (s : Side) → IsSum 65537 (chain_on s after)
+pub taken_sums : (side : Side) (body : BodyLists) (before after : NodeSums) (difference : Option Difference) → length body.corners ≤ 65535 → Takes side body before after difference → ((s : Side) → IsSum 65536 (chain_on s before)) → (s : Side) → IsSum 65537 (chain_on s after)
 taken_sums side body before after difference small (outer e same _) h s =
-    subst (λ (t : Track). IsSum 65537 (chain_on s t)) (sym same) (sum_more 65536 65537 (chain_on s before) (omega arith) (h s))
+    subst (λ (t : NodeSums). IsSum 65537 (chain_on s t)) (sym same) (sum_more 65536 65537 (chain_on s before) (omega arith) (h s))
 taken_sums side body before after difference small (more some g low _) h s =
     sum_more (taken_on s (one_more side (taken_both 65536))) 65537 (chain_on s after) (one_side_more side s)
     (grown_sums side (taken_both 65536) body before after small g (λ r. both_sides r (chain_on r before) (h r)) s)
 taken_sums side body before after difference small (last some grown g e same _) h s =
-    subst (λ (t : Track). IsSum 65537 (chain_on s t)) (sym same) (settled_sum grown 65537 s)
+    subst (λ (t : NodeSums). IsSum 65537 (chain_on s t)) (sym same) (settled_sum grown 65537 s)
 
 -- a sum over a list of terms that are small
 pub sum_by_few : {X : Type 0} → (f : X → ℕ) (most : ℕ) (xs : List X) → ((v : ℕ) (x : X) → slice_get xs v ≡ Some x → f x ≤ most) → sum_by f xs ≤ most * length xs
@@ -57,16 +57,16 @@ pub one_if_few : (b : Bool) → one_if b ≤ 1
 one_if_few true = omega arith
 one_if_few false = omega arith
 
-pub few_under_way : (tracks : List Track) → under_way tracks ≤ length tracks
-few_under_way tracks = omega (arith, sum_by_few (λ (t : Track). one_if (is_under_way t)) 1 tracks (λ v t e. one_if_few (is_under_way t)))
+pub few_under_way : (node_sums : List NodeSums) → under_way node_sums ≤ length node_sums
+few_under_way node_sums = omega (arith, sum_by_few (λ (t : NodeSums). one_if (is_under_way t)) 1 node_sums (λ v t e. one_if_few (is_under_way t)))
 
-pub few_in_all : (tally : TallySeen) → IsSummed tally → pairs_in_all tally.tracks ≤ 12 * 65535 * 65537 * 65536
-few_in_all tally h =
-    omega (arith, sum_by_few pairs_of (12 * 65535 * 65537) tally.tracks (λ v t e. few_kept t (λ s. sum_more 65536 65537 (chain_on s t) (omega arith) (h.sums v t e s))), h.few_nodes)
+pub few_in_all : (all_sums : AllSumsSeen) → IsSummed all_sums → pairs_in_all all_sums.node_sums ≤ 12 * 65535 * 65537 * 65536
+few_in_all all_sums h =
+    omega (arith, sum_by_few pairs_of (12 * 65535 * 65537) all_sums.node_sums (λ v t e. few_kept t (λ s. sum_more 65536 65537 (chain_on s t) (omega arith) (h.sums v t e s))), h.few_nodes)
 
 -- one term of a sum is replaced
-pub recounted : (f : Track → ℕ) (tracks : List Track) (node : ℕ) (before after : Track) (n : ℕ) → slice_get tracks node ≡ Some before → n ≡ sum_by f tracks → (n - f before) + f after ≡ sum_by f (set tracks node after)
-recounted f tracks node before after n there e =
-    let within = slice_get_within tracks node before there in
-    let here = ap f (get_or_from_slice_get tracks node before before there) in
-    omega (arith, e, here, sum_by-set f tracks node after before within, get_or-le-sum_by f tracks node before within)
+pub recounted : (f : NodeSums → ℕ) (node_sums : List NodeSums) (node : ℕ) (before after : NodeSums) (n : ℕ) → slice_get node_sums node ≡ Some before → n ≡ sum_by f node_sums → (n - f before) + f after ≡ sum_by f (set node_sums node after)
+recounted f node_sums node before after n there e =
+    let within = slice_get_within node_sums node before there in
+    let here = ap f (get_or_from_slice_get node_sums node before before there) in
+    omega (arith, e, here, sum_by-set f node_sums node after before within, get_or-le-sum_by f node_sums node before within)

@@ -6,8 +6,8 @@ use Rattle.mesh_model.specs.Graph.{leads_from}
 use Rattle.edge_chain.specs.Chains.{Chain, IsNetOf}
 use Rattle.mesh_graph.specs.Graphs.{GraphSeen, IsGraphOf}
 use Rattle.dag_check.specs.Added.{first_triangles}
-use Rattle.dag_check.specs.Tracks.{taken_both}
-use Rattle.dag_check.specs.Tallies.{TallySeen, IsTally, TallyFollows}
+use Rattle.dag_check.specs.NodeSums.{taken_both}
+use Rattle.dag_check.specs.AllNodeSums.{AllSumsSeen, AreAllSums, AllSumsFollow}
 
 -- the index with its graph, the number of bodies added, the sum of the base, and what is kept of the nodes
 pub record CheckerSeen : Type 0 where
@@ -15,7 +15,7 @@ pub record CheckerSeen : Type 0 where
   pub graph : GraphSeen
   pub next : ℕ
   pub base : Chain
-  pub tally : TallySeen
+  pub all_sums : AllSumsSeen
 
 -- what holds of every checker
 pub record IsChecker (checker : CheckerSeen) : Type 0 where
@@ -23,9 +23,9 @@ pub record IsChecker (checker : CheckerSeen) : Type 0 where
   pub graph : IsGraphOf checker.index checker.graph
   pub within : checker.next ≤ length checker.index.fields
   pub few : checker.base.count ≤ 65535 * checker.next
-  pub tally : IsTally checker.index (taken_both checker.next) checker.tally
+  pub all_sums : AreAllSums checker.index (taken_both checker.next) checker.all_sums
 
 -- what the checker keeps is that of the first of these bodies, as many as were added
 pub record Follows (checker : CheckerSeen) (bodies : List BodyLists) : Type 0 where
   pub base : (root : ℕ) → checker.graph.verdict ≡ Ok root → IsNetOf (first_triangles checker.next (leads_from root) checker.index.fields bodies) checker.base
-  pub tally : TallyFollows checker.index (taken_both checker.next) bodies checker.tally
+  pub all_sums : AllSumsFollow checker.index (taken_both checker.next) bodies checker.all_sums

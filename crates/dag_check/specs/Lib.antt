@@ -1,9 +1,8 @@
 pub mod Added
 pub mod Open
-pub mod Tracks
-pub mod Gaps
-pub mod Tallies
+pub mod NodeSums
+pub mod Borders
+pub mod AllNodeSums
 pub mod Checkers
-pub mod MeshView
 pub mod Refusals
 pub mod Checks

@@ -1,10 +1,10 @@
 //! Checking one body at a time.
 
 use crate::adding::add_to_base;
-use crate::gaps::border;
-use crate::meshes::Mesh;
+use crate::all_node_sums::{AllNodeSums, empty_all_sums};
+use crate::borders::border;
 use crate::sides::Side;
-use crate::tallies::{Tally, empty_tally};
+use accepted_mesh::Mesh;
 use edge_chain::EdgeChain;
 use grid_vertex::NoMemory;
 use mesh_graph::MeshGraph;
@@ -22,18 +22,18 @@ pub struct Checker {
     graph: MeshGraph,
     next: u32,
     base: EdgeChain,
-    tally: Tally,
+    all_sums: AllNodeSums,
 }
 
 impl Model for Checker {
-    ghost use Rattle.dag_check.specs.Tallies.{tally_of};
+    ghost use Rattle.dag_check.specs.AllNodeSums.{all_sums_of};
     ghost use Rattle.dag_check.specs.Checkers.{CheckerSeen, IsChecker};
 
     ghost Value = { CheckerSeen };
 
-    ghost view = { λ c. record { index = c.index; graph = c.graph; next = c.next; base = c.base; tally = tally_of c.tally } };
+    ghost view = { λ c. record { index = c.index; graph = c.graph; next = c.next; base = c.base; all_sums = all_sums_of c.all_sums } };
 
-    ghost invariant = { λ c. IsChecker (record { index = c.index; graph = c.graph; next = c.next; base = c.base; tally = tally_of c.tally }) };
+    ghost invariant = { λ c. IsChecker (record { index = c.index; graph = c.graph; next = c.next; base = c.base; all_sums = all_sums_of c.all_sums }) };
 }
 
 impl Checker {
@@ -54,14 +54,14 @@ impl Checker {
     {
         let _nodes = index.node_count();
         let graph = MeshGraph::of(alloc, index.nodes(), index.fields())?;
-        let tally = empty_tally(alloc, &index, &graph)?;
+        let all_sums = empty_all_sums(alloc, &index, &graph)?;
         Ok(Checker {
             alloc,
             index,
             graph,
             next: 0,
             base: EdgeChain::new(alloc),
-            tally,
+            all_sums,
         })
     }
 
@@ -78,20 +78,20 @@ impl Checker {
             graph,
             next,
             mut base,
-            mut tally,
+            mut all_sums,
         } = self;
         let field = index.patch(next);
         let _patch = body.patch();
         add_to_base(&mut base, graph.verdict(), field.tail, body)?;
-        tally.take(alloc, Side::Incoming, field.head, body)?;
-        tally.take(alloc, Side::Outgoing, field.tail, body)?;
+        all_sums.take(alloc, Side::Incoming, field.head, body)?;
+        all_sums.take(alloc, Side::Outgoing, field.tail, body)?;
         Ok(Checker {
             alloc,
             index,
             graph,
             next: next + 1,
             base,
-            tally,
+            all_sums,
         })
     }
 
@@ -113,7 +113,7 @@ impl Checker {
     pub fn open_nodes(&self) -> u32
         ensures { result ≡ open_nodes self.now.index.fields self.now.next (length self.now.index.nodes) }
     {
-        self.tally.open_nodes
+        self.all_sums.open_nodes
     }
 
     /// How many pairs of points the checker keeps: for each open node those whose edges don't cancel in
@@ -121,7 +121,7 @@ impl Checker {
     pub fn kept_pairs(&self) -> u64
         ensures { (bodies : List BodyLists) → Follows self.now bodies → KeepsPairs self.now.index self.now.next bodies result }
     {
-        self.tally.kept_pairs
+        self.all_sums.kept_pairs
     }
 
     /// The mesh, or the first fault. It takes no memory. Condition: all bodies were added.
@@ -138,10 +138,10 @@ impl Checker {
             graph,
             next: _,
             base,
-            tally,
+            all_sums,
         } = self;
         let root = graph.verdict()?;
-        border(tally.gap)?;
+        border(all_sums.border_found)?;
         Ok(Mesh::with(index, graph, root, base.open_edges()))
     }
 }

@@ -11,8 +11,8 @@ ghost use Rattle.view_outside.specs.Taken.{taken_after};
 ghost use Rattle.dag_check.specs.Checks.{bodies_behind, FollowsBodies, FollowsFile, Checks, ChecksOnlyIf};
 
 use crate::checkers::Checker;
-use crate::meshes::Mesh;
 use crate::refusals::CheckRefusal;
+use accepted_mesh::Mesh;
 use file_model::ReadRefusal;
 use patch_file::{Index, read_body, read_end};
 use std::alloc::Global;

@@ -4,10 +4,10 @@ ghost use Rattle.std.specs.Prelude.{◌≡◌, ℕ, ◌<◌, length, IfOk};
 ghost use Rattle.file_model.specs.Lists.{IndexLists};
 ghost use Rattle.mesh_model.specs.Accepted.{is_inner};
 ghost use Rattle.mesh_graph.specs.Graphs.{IsGraphOf};
-ghost use Rattle.dag_check.specs.Tracks.{inner_patches};
-ghost use Rattle.dag_check.specs.Tallies.{AreNew};
+ghost use Rattle.dag_check.specs.NodeSums.{inner_patches};
+ghost use Rattle.dag_check.specs.AllNodeSums.{AreNew};
 
-use crate::tracks::Track;
+use crate::node_sums::NodeSums;
 use grid_vertex::NoMemory;
 use mesh_graph::MeshGraph;
 use patch_file::Index;
@@ -36,15 +36,19 @@ fn patches_of(index: &Index, graph: &MeshGraph, node: u32) -> u32
 }
 
 /// The nodes' sums, each of no triangle.
-pub fn new_tracks(alloc: Global, index: &Index, graph: &MeshGraph) -> Result<Vec<Track>, NoMemory>
+pub fn new_node_sums(
+    alloc: Global,
+    index: &Index,
+    graph: &MeshGraph,
+) -> Result<Vec<NodeSums>, NoMemory>
     requires { IsGraphOf index.now graph.now }
-    ensures as_many { IfOk result (λ tracks. length tracks.items ≡ length index.now.nodes) }
-    ensures new { IfOk result (λ tracks. AreNew index.now.fields tracks.items) }
+    ensures as_many { IfOk result (λ node_sums. length node_sums.items ≡ length index.now.nodes) }
+    ensures new { IfOk result (λ node_sums. AreNew index.now.fields node_sums.items) }
 {
-    let mut tracks = Vec::new(alloc);
+    let mut node_sums = Vec::new(alloc);
     for node in 0..index.node_count() {
         let total = patches_of(index, graph, node);
-        tracks.push(Track::new(alloc, total))?;
+        node_sums.push(NodeSums::new(alloc, total))?;
     }
-    Ok(tracks)
+    Ok(node_sums)
 }

@@ -4,20 +4,19 @@
 #![tactic(auto)]
 
 mod adding;
+mod all_node_sums;
+mod borders;
 mod checkers;
 mod checks;
-mod gaps;
 mod inner;
-mod meshes;
+mod node_sums;
 mod refusals;
 mod sides;
-mod tallies;
-mod tracks;
 
+pub use accepted_mesh::Mesh;
 pub use checkers::Checker;
 pub use checks::check;
 pub use mesh_model::{DagFault, Refusal};
-pub use meshes::Mesh;
 pub use refusals::CheckRefusal;
 
 #[cfg(test)]

@@ -10,11 +10,11 @@ use Rattle.grid_vertex.specs.declared.triangles.Triangle.{Triangle}
 use Rattle.grid_vertex.specs.Triangles.{is_flat_triangle}
 use Rattle.mesh_model.specs.Nets.{net, Pair, is_forward}
 use Rattle.edge_chain.specs.declared.edges.Edge.{Edge}
-use Rattle.edge_chain.specs.declared.edges.Side.{Side}
+use Rattle.edge_chain.specs.declared.edges.DirectedEdge.{DirectedEdge}
 use Rattle.edge_chain.specs.Chains.{Chain, Adds}
 use Rattle.edge_chain.specs.Edges.{edge_cmp, edge_cmp_total, edge_cmp_exact, edge_of, side_of}
 use Rattle.edge_chain.specs.Sums.{sum_of, or_zero, AreSums, HasSums, chain_of}
-use Rattle.edge_chain.proofs.Sides.{AreDistinct, AreForward, sides_distinct, sides_forward, turn_small, net_is}
+use Rattle.edge_chain.proofs.DirectedEdges.{AreDistinct, AreForward, sides_distinct, sides_forward, turn_small, net_is}
 use Rattle.edge_chain.proofs.Totals.{AreTurns, IsTotal, turns_at, sums_after, or_zero_total, fits_sum, if_some_at}
 use Rattle.edge_chain.proofs.Views.{entries_from_sums, held_entries, seen}
 
@@ -31,13 +31,13 @@ pub on_err : {A E : Type 0} (r : Result A E) (P : Type 0) → P → OnErr r P
 on_err (Ok a) P h = tt
 on_err (Err e) P h = h
 
--- a sum that has room fits with its side's turn
-pub fits_at : (sums : BTreeMap Edge ℤ) (n : ℕ) → AreSums sums n → n < 2 ^ 60 → (from to : Point) (side : Side) → side ≡ side_of from to → (now' : Option ℤ) → now' ≡ Some (or_zero (sum_of sums side.edge)) → IfSome now' (λ sum. SFits w64 (sum +ℤ side.turn))
-fits_at sums n h room from to side e now' is =
-    if_some_at (λ (sum : ℤ). SFits w64 (sum +ℤ side.turn)) now' (or_zero (sum_of sums side.edge)) is
-    (fits_sum sums n h room side.edge side.turn (rw e (turn_small from to)))
+-- a sum that has room fits with its directed edge's sign
+pub fits_at : (sums : BTreeMap Edge ℤ) (n : ℕ) → AreSums sums n → n < 2 ^ 60 → (from to : Point) (directed : DirectedEdge) → directed ≡ side_of from to → (now' : Option ℤ) → now' ≡ Some (or_zero (sum_of sums directed.edge)) → IfSome now' (λ sum. SFits w64 (sum +ℤ directed.sign))
+fits_at sums n h room from to directed e now' is =
+    if_some_at (λ (sum : ℤ). SFits w64 (sum +ℤ directed.sign)) now' (or_zero (sum_of sums directed.edge)) is
+    (fits_sum sums n h room directed.edge directed.sign (rw e (turn_small from to)))
 
-module _ (t : Triangle) (ab bc ca : Side) (x : ab ≡ side_of t.a t.b) (y : bc ≡ side_of t.b t.c) (z : ca ≡ side_of t.c t.a) where
+module _ (t : Triangle) (ab bc ca : DirectedEdge) (x : ab ≡ side_of t.a t.b) (y : bc ≡ side_of t.b t.c) (z : ca ≡ side_of t.c t.a) where
   pub distinct : is_flat_triangle t ≡ false → AreDistinct ab.edge bc.edge ca.edge
   distinct area = rw (x, y, z) (sides_distinct t area)
 

@@ -7,7 +7,7 @@ use Rattle.std.specs.BTreeMap.{BTreeMap}
 use Rattle.std.proofs.lemmas.List.Elements.{recursion_from_All}
 use Rattle.mesh_model.specs.Nets.{Pair, is_forward}
 use Rattle.edge_chain.specs.declared.edges.Edge.{Edge}
-use Rattle.edge_chain.specs.Chains.{held, HoldSame, IsFirstDifference}
+use Rattle.edge_chain.specs.Chains.{kept_net, HoldSame, IsFirstDifference}
 use Rattle.edge_chain.specs.Orders.{is_pair_before_is}
 use Rattle.edge_chain.specs.Entries.{entries_from_held}
 use Rattle.edge_chain.specs.Edges.{edge_cmp, edge_cmp_total, edge_cmp_exact, pair_of, edge_of}
@@ -60,7 +60,7 @@ module _ (here there : BTreeMap Edge ℤ) (m n : ℕ) (h : AreSums here m) (k : 
   none_if_one : (g : Option (Gap Edge)) → MatchOption g (here.entries ≡ there.entries) (IsGap edge_cmp here.entries there.entries) → entries_of here ≡ entries_of there → option_map difference_of g ≡ None
   none_if_one None is e = refl
   none_if_one (Some g) is e =
-      absurd (is.differs (sym is.here_is ∙ sym (held_entries here (pair_of g.0)) ∙ ap (λ (es : List (Pair × ℤ)). held es (pair_of g.0)) e ∙ held_entries there (pair_of g.0) ∙ is.there_is))
+      absurd (is.differs (sym is.here_is ∙ sym (held_entries here (pair_of g.0)) ∙ ap (λ (es : List (Pair × ℤ)). kept_net es (pair_of g.0)) e ∙ held_entries there (pair_of g.0) ∙ is.there_is))
 
   pub none_iff : (option_map difference_of (gap here there) ≡ None) ↔ (entries_of here ≡ entries_of there)
   none_iff = (one_if_none (gap here there) found, none_if_one (gap here there) found)
@@ -68,7 +68,7 @@ module _ (here there : BTreeMap Edge ℤ) (m n : ℕ) (h : AreSums here m) (k : 
   -- the entries are one exactly where they hold the same
   pub same_iff : (entries_of here ≡ entries_of there) ↔ HoldSame (entries_of here) (entries_of there)
   same_iff = (
-    λ e p _. ap (λ (es : List (Pair × ℤ)). held es p) e,
+    λ e p _. ap (λ (es : List (Pair × ℤ)). kept_net es p) e,
     entries_from_held (entries_of here) (entries_of there) (entries_from_sums here m h) (entries_from_sums there n k),
   )
 

@@ -1,6 +1,6 @@
 pub mod SumLaws
 pub mod Views
-pub mod Sides
+pub mod DirectedEdges
 pub mod Totals
 pub mod Added
 pub mod Gapped

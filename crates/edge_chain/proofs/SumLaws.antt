@@ -6,7 +6,7 @@ use Rattle.std.specs.Cmp.{Equal-is}
 use Rattle.std.proofs.lemmas.Cmp.{tied_itself}
 use Rattle.edge_chain.specs.declared.edges.Edge.{Edge}
 use Rattle.edge_chain.specs.Edges.{edge_cmp, edge_cmp_total, edge_cmp_exact}
-use Rattle.edge_chain.specs.Sums.{is_at_edge, or_zero, unless_zero, with_sum, placed, tidied}
+use Rattle.edge_chain.specs.Sums.{is_at_edge, or_zero, unless_zero, with_sum, sums_with_place, sums_without_zero}
 
 pub edge_exact : (p q : Edge) → is_at_edge p q ≡ true → p ≡ q
 edge_exact p q e = edge_cmp_exact p q ((Equal-is (edge_cmp p q)).0 e)
@@ -27,7 +27,7 @@ overwritten f mid edge v w h q =
     at (is_at_edge edge q) refl
 
 -- a sum written at an edge, and then tidied
-pub tidied_write : (f mid : Edge → Option ℤ) (edge : Edge) (w : Option ℤ) → ((q : Edge) → mid q ≡ with_sum f edge w q) → (q : Edge) → tidied mid edge q ≡ with_sum f edge (unless_zero w) q
+pub tidied_write : (f mid : Edge → Option ℤ) (edge : Edge) (w : Option ℤ) → ((q : Edge) → mid q ≡ with_sum f edge w q) → (q : Edge) → sums_without_zero mid edge q ≡ with_sum f edge (unless_zero w) q
 tidied_write f mid edge w h q =
     let here : mid edge ≡ w = h edge ∙ ap (λ (t : Bool). cond t w (f edge)) (at_itself edge) in
     overwritten f mid edge w (unless_zero (mid edge)) h q ∙ ap (λ (v : Option ℤ). with_sum f edge (unless_zero v) q) here
@@ -37,7 +37,7 @@ settled None e = refl
 settled (Some v) e = sym e
 
 -- an edge that was given room for its sum, and is tidied, is as it was
-pub untouched : (f mid last : Edge → Option ℤ) (edge : Edge) → f edge ≡ unless_zero (f edge) → ((q : Edge) → mid q ≡ placed f edge q) → ((q : Edge) → last q ≡ tidied mid edge q) → (q : Edge) → last q ≡ f q
+pub untouched : (f mid last : Edge → Option ℤ) (edge : Edge) → f edge ≡ unless_zero (f edge) → ((q : Edge) → mid q ≡ sums_with_place f edge q) → ((q : Edge) → last q ≡ sums_without_zero mid edge q) → (q : Edge) → last q ≡ f q
 untouched f mid last edge tidy h k q =
     k q ∙ tidied_write f mid edge (Some (or_zero (f edge))) h q
     ∙ ap (λ (w : Option ℤ). with_sum f edge w q) (settled (f edge) tidy)

@@ -9,11 +9,11 @@ use Rattle.std.proofs.lemmas.Int.{ints, fits_signed_from_abs}
 use Rattle.std.proofs.lemmas.Bool.Decides.{Decides-int_eq}
 use Rattle.mesh_model.specs.Nets.{is_forward}
 use Rattle.edge_chain.specs.declared.edges.Edge.{Edge}
-use Rattle.edge_chain.specs.declared.edges.Side.{Side}
+use Rattle.edge_chain.specs.declared.edges.DirectedEdge.{DirectedEdge}
 use Rattle.edge_chain.specs.Edges.{edge_cmp, pair_of}
-use Rattle.edge_chain.specs.Sums.{sum_of, is_at_edge, or_zero, unless_zero, with_sum, placed, turned, raised, AreSums}
+use Rattle.edge_chain.specs.Sums.{sum_of, is_at_edge, or_zero, unless_zero, with_sum, sums_with_place, signed_sum, sums_with_edge, AreSums}
 use Rattle.edge_chain.proofs.SumLaws.{edge_exact, at_itself, settled}
-use Rattle.edge_chain.proofs.Sides.{AreDistinct, AreForward, adds_at}
+use Rattle.edge_chain.proofs.DirectedEdges.{AreDistinct, AreForward, adds_at}
 
 -- a sum is changed where the test passes
 abbrev on_tie : Bool → (Option ℤ → Option ℤ) → Option ℤ → Option ℤ
@@ -22,8 +22,8 @@ on_tie tie g v = cond tie (g v) v
 abbrev room : Option ℤ → Option ℤ
 room v = Some (or_zero v)
 
-abbrev rise : Side → Option ℤ → Option ℤ
-rise side v = unless_zero (turned side v)
+abbrev rise : DirectedEdge → Option ℤ → Option ℤ
+rise directed v = unless_zero (signed_sum directed v)
 
 on_tie_no : (tie : Bool) (g : Option ℤ → Option ℤ) (v : Option ℤ) → tie ≡ false → on_tie tie g v ≡ v
 on_tie_no tie g v e = ap (λ (t : Bool). on_tie t g v) e
@@ -38,27 +38,27 @@ step_if g f edge q false e = refl
 step_at : (g : Option ℤ → Option ℤ) (f : Edge → Option ℤ) (edge q : Edge) → with_sum f edge (g (f edge)) q ≡ on_tie (is_at_edge edge q) g (f q)
 step_at g f edge q = step_if g f edge q (is_at_edge edge q) refl
 
--- the sums on the way: room is made for three edges, and then each side is added
-pub record Run (f ready first second third : Edge → Option ℤ) (ab bc ca : Side) : Type 0 where
-  pub ready_is : (q : Edge) → ready q ≡ placed (placed (placed f ab.edge) bc.edge) ca.edge q
-  pub first_is : (q : Edge) → first q ≡ raised ready ab q
-  pub second_is : (q : Edge) → second q ≡ raised first bc q
-  pub third_is : (q : Edge) → third q ≡ raised second ca q
+-- the sums on the way: room is made for three edges, and then each directed edge is added
+pub record Run (f ready first second third : Edge → Option ℤ) (ab bc ca : DirectedEdge) : Type 0 where
+  pub ready_is : (q : Edge) → ready q ≡ sums_with_place (sums_with_place (sums_with_place f ab.edge) bc.edge) ca.edge q
+  pub first_is : (q : Edge) → first q ≡ sums_with_edge ready ab q
+  pub second_is : (q : Edge) → second q ≡ sums_with_edge first bc q
+  pub third_is : (q : Edge) → third q ≡ sums_with_edge second ca q
 
-module _ (f ready first second third : Edge → Option ℤ) (ab bc ca : Side) where
+module _ (f ready first second third : Edge → Option ℤ) (ab bc ca : DirectedEdge) where
   -- room was made at each edge
   abbrev IsReady : Type 0
-  IsReady = (q : Edge) → ready q ≡ placed (placed (placed f ab.edge) bc.edge) ca.edge q
+  IsReady = (q : Edge) → ready q ≡ sums_with_place (sums_with_place (sums_with_place f ab.edge) bc.edge) ca.edge q
 
   ready_at : IsReady → (q : Edge) → ready q ≡ on_tie (is_at_edge ca.edge q) room (on_tie (is_at_edge bc.edge q) room (on_tie (is_at_edge ab.edge q) room (f q)))
   ready_at h q =
-      h q ∙ step_at room (placed (placed f ab.edge) bc.edge) ca.edge q
-      ∙ ap (on_tie (is_at_edge ca.edge q) room) (step_at room (placed f ab.edge) bc.edge q ∙ ap (on_tie (is_at_edge bc.edge q) room) (step_at room f ab.edge q))
+      h q ∙ step_at room (sums_with_place (sums_with_place f ab.edge) bc.edge) ca.edge q
+      ∙ ap (on_tie (is_at_edge ca.edge q) room) (step_at room (sums_with_place f ab.edge) bc.edge q ∙ ap (on_tie (is_at_edge bc.edge q) room) (step_at room f ab.edge q))
 
-  raised_at : (before after : Edge → Option ℤ) (side : Side) → ((q : Edge) → after q ≡ raised before side q) → (q : Edge) → after q ≡ on_tie (is_at_edge side.edge q) (rise side) (before q)
-  raised_at before after side h q = h q ∙ step_at (rise side) before side.edge q
+  raised_at : (before after : Edge → Option ℤ) (directed : DirectedEdge) → ((q : Edge) → after q ≡ sums_with_edge before directed q) → (q : Edge) → after q ≡ on_tie (is_at_edge directed.edge q) (rise directed) (before q)
+  raised_at before after directed h q = h q ∙ step_at (rise directed) before directed.edge q
 
-  -- at its edge each side finds the old sum
+  -- at its edge each directed edge finds the old sum
   pub first_ready : AreDistinct ab.edge bc.edge ca.edge → IsReady → ready ab.edge ≡ Some (or_zero (f ab.edge))
   first_ready d h =
       ready_at h ab.edge
@@ -66,7 +66,7 @@ module _ (f ready first second third : Edge → Option ℤ) (ab bc ca : Side) wh
       ∙ on_tie_no (is_at_edge bc.edge ab.edge) room _ d.second_first
       ∙ on_tie_yes (is_at_edge ab.edge ab.edge) room (f ab.edge) (at_itself ab.edge)
 
-  pub second_ready : AreDistinct ab.edge bc.edge ca.edge → IsReady → ((q : Edge) → first q ≡ raised ready ab q) → first bc.edge ≡ Some (or_zero (f bc.edge))
+  pub second_ready : AreDistinct ab.edge bc.edge ca.edge → IsReady → ((q : Edge) → first q ≡ sums_with_edge ready ab q) → first bc.edge ≡ Some (or_zero (f bc.edge))
   second_ready d h k =
       raised_at ready first ab k bc.edge
       ∙ on_tie_no (is_at_edge ab.edge bc.edge) (rise ab) _ d.first_second
@@ -75,7 +75,7 @@ module _ (f ready first second third : Edge → Option ℤ) (ab bc ca : Side) wh
       ∙ on_tie_yes (is_at_edge bc.edge bc.edge) room (on_tie (is_at_edge ab.edge bc.edge) room (f bc.edge)) (at_itself bc.edge)
       ∙ ap room (on_tie_no (is_at_edge ab.edge bc.edge) room (f bc.edge) d.first_second)
 
-  pub third_ready : AreDistinct ab.edge bc.edge ca.edge → IsReady → ((q : Edge) → first q ≡ raised ready ab q) → ((q : Edge) → second q ≡ raised first bc q) → second ca.edge ≡ Some (or_zero (f ca.edge))
+  pub third_ready : AreDistinct ab.edge bc.edge ca.edge → IsReady → ((q : Edge) → first q ≡ sums_with_edge ready ab q) → ((q : Edge) → second q ≡ sums_with_edge first bc q) → second ca.edge ≡ Some (or_zero (f ca.edge))
   third_ready d h k l =
       raised_at first second bc l ca.edge
       ∙ on_tie_no (is_at_edge bc.edge ca.edge) (rise bc) _ d.second_third
@@ -103,8 +103,8 @@ add_zero z = omega (arith, ints)
 add_three : (t : ℤ) → ((t +ℤ pos 0) +ℤ pos 0 ≡ t) × ((pos 0 +ℤ t) +ℤ pos 0 ≡ t) × ((pos 0 +ℤ pos 0) +ℤ t ≡ t)
 add_three t = (omega (arith, ints), omega (arith, ints), omega (arith, ints))
 
-abbrev three : Side → Side → Side → Bool → Bool → Bool → ℤ
-three ab bc ca x y z = (cond x ab.turn (pos 0) +ℤ cond y bc.turn (pos 0)) +ℤ cond z ca.turn (pos 0)
+abbrev three : DirectedEdge → DirectedEdge → DirectedEdge → Bool → Bool → Bool → ℤ
+three ab bc ca x y z = (cond x ab.sign (pos 0) +ℤ cond y bc.sign (pos 0)) +ℤ cond z ca.sign (pos 0)
 
 -- at most one of the three ties
 record AtMostOne (x y z : Bool) : Type 0 where
@@ -112,27 +112,27 @@ record AtMostOne (x y z : Bool) : Type 0 where
   yz : y ≡ true → z ≡ true → ⊥
   zx : z ≡ true → x ≡ true → ⊥
 
-total_if : (ab bc ca : Side) (v : Option ℤ) → v ≡ unless_zero v → (x y z : Bool) → AtMostOne x y z → on_tie z (rise ca) (on_tie y (rise bc) (on_tie x (rise ab) (on_tie z room (on_tie y room (on_tie x room v))))) ≡ unless_zero (Some (or_zero v +ℤ three ab bc ca x y z))
+total_if : (ab bc ca : DirectedEdge) (v : Option ℤ) → v ≡ unless_zero v → (x y z : Bool) → AtMostOne x y z → on_tie z (rise ca) (on_tie y (rise bc) (on_tie x (rise ab) (on_tie z room (on_tie y room (on_tie x room v))))) ≡ unless_zero (Some (or_zero v +ℤ three ab bc ca x y z))
 total_if ab bc ca v tidy true true z m = absurd (m.xy refl refl)
 total_if ab bc ca v tidy true false true m = absurd (m.zx refl refl)
-total_if ab bc ca v tidy true false false m = ap (λ (t : ℤ). unless_zero (Some (or_zero v +ℤ t))) (sym (add_three ab.turn).0)
+total_if ab bc ca v tidy true false false m = ap (λ (t : ℤ). unless_zero (Some (or_zero v +ℤ t))) (sym (add_three ab.sign).0)
 total_if ab bc ca v tidy false true true m = absurd (m.yz refl refl)
-total_if ab bc ca v tidy false true false m = ap (λ (t : ℤ). unless_zero (Some (or_zero v +ℤ t))) (sym (add_three bc.turn).1)
-total_if ab bc ca v tidy false false true m = ap (λ (t : ℤ). unless_zero (Some (or_zero v +ℤ t))) (sym (add_three ca.turn).2)
+total_if ab bc ca v tidy false true false m = ap (λ (t : ℤ). unless_zero (Some (or_zero v +ℤ t))) (sym (add_three bc.sign).1)
+total_if ab bc ca v tidy false false true m = ap (λ (t : ℤ). unless_zero (Some (or_zero v +ℤ t))) (sym (add_three ca.sign).2)
 total_if ab bc ca v tidy false false false m = sym (settled v tidy) ∙ ap (λ (z : ℤ). unless_zero (Some z)) (sym (add_zero (or_zero v)))
 
 -- what the three sides add at an edge
-abbrev pub turns_at : Side → Side → Side → Edge → ℤ
+abbrev pub turns_at : DirectedEdge → DirectedEdge → DirectedEdge → Edge → ℤ
 turns_at ab bc ca q = (adds_at ab q +ℤ adds_at bc q) +ℤ adds_at ca q
 
 -- the sums with what the sides add, where that isn't 0
-abbrev pub IsTotal : (Edge → Option ℤ) → (Edge → Option ℤ) → Side → Side → Side → Type 0
+abbrev pub IsTotal : (Edge → Option ℤ) → (Edge → Option ℤ) → DirectedEdge → DirectedEdge → DirectedEdge → Type 0
 IsTotal f last ab bc ca = (q : Edge) → last q ≡ unless_zero (Some (or_zero (f q) +ℤ turns_at ab bc ca q))
 
 one_tie : (d e f q : Edge) → AreDistinct d e f → AtMostOne (is_at_edge d q) (is_at_edge e q) (is_at_edge f q)
 one_tie d e f q k = record { xy = not_two d e q k.first_second; yz = not_two e f q k.second_third; zx = not_two f d q k.third_first }
 
-pub total_is : (f ready first second third : Edge → Option ℤ) (ab bc ca : Side) → AreDistinct ab.edge bc.edge ca.edge → ((q : Edge) → f q ≡ unless_zero (f q)) → Run f ready first second third ab bc ca → IsTotal f third ab bc ca
+pub total_is : (f ready first second third : Edge → Option ℤ) (ab bc ca : DirectedEdge) → AreDistinct ab.edge bc.edge ca.edge → ((q : Edge) → f q ≡ unless_zero (f q)) → Run f ready first second third ab bc ca → IsTotal f third ab bc ca
 total_is f ready first second third ab bc ca d tidy run q =
     last_at f ready first second third ab bc ca run q
     ∙ total_if ab bc ca (f q) (tidy q) (is_at_edge ab.edge q) (is_at_edge bc.edge q) (is_at_edge ca.edge q) (one_tie ab.edge bc.edge ca.edge q d)
@@ -152,8 +152,8 @@ small_if sums n h q (Some v) e = (h.each q v e).small
 small_sum : (sums : BTreeMap Edge ℤ) (n : ℕ) → AreSums sums n → (q : Edge) → unsigned_abs (or_zero (sum_of sums q)) ≤ n
 small_sum sums n h q = small_if sums n h q (sum_of sums q) refl
 
-pub fits_sum : (sums : BTreeMap Edge ℤ) (n : ℕ) → AreSums sums n → n < 2 ^ 60 → (q : Edge) (turn : ℤ) → unsigned_abs turn ≤ 1 → SFits w64 (or_zero (sum_of sums q) +ℤ turn)
-fits_sum sums n h room q turn one = fits_signed_from_abs w64 (or_zero (sum_of sums q) +ℤ turn) (omega (arith, abs_add (or_zero (sum_of sums q)) turn, small_sum sums n h q))
+pub fits_sum : (sums : BTreeMap Edge ℤ) (n : ℕ) → AreSums sums n → n < 2 ^ 60 → (q : Edge) (sign : ℤ) → unsigned_abs sign ≤ 1 → SFits w64 (or_zero (sum_of sums q) +ℤ sign)
+fits_sum sums n h room q sign one = fits_signed_from_abs w64 (or_zero (sum_of sums q) +ℤ sign) (omega (arith, abs_add (or_zero (sum_of sums q)) sign, small_sum sums n h q))
 
 pub if_some_at : (P : ℤ → Type 0) (r : Option ℤ) (v : ℤ) → r ≡ Some v → P v → IfSome r P
 if_some_at P r v e h = subst (λ (o : Option ℤ). IfSome o P) (sym e) h
@@ -175,32 +175,32 @@ pub or_zero_total : (z : ℤ) → or_zero (unless_zero (Some z)) ≡ z
 or_zero_total z = zero_if z (int_eq z (pos 0)) refl
 
 -- the sides' turns are 1 and -1
-pub record AreTurns (ab bc ca : Side) : Type 0 where
-  pub first : unsigned_abs ab.turn ≤ 1
-  pub second : unsigned_abs bc.turn ≤ 1
-  pub third : unsigned_abs ca.turn ≤ 1
+pub record AreTurns (ab bc ca : DirectedEdge) : Type 0 where
+  pub first : unsigned_abs ab.sign ≤ 1
+  pub second : unsigned_abs bc.sign ≤ 1
+  pub third : unsigned_abs ca.sign ≤ 1
 
-small_three : (ab bc ca : Side) → AreTurns ab bc ca → (x y z : Bool) → AtMostOne x y z → unsigned_abs (three ab bc ca x y z) ≤ 1
+small_three : (ab bc ca : DirectedEdge) → AreTurns ab bc ca → (x y z : Bool) → AtMostOne x y z → unsigned_abs (three ab bc ca x y z) ≤ 1
 small_three ab bc ca t true true z m = absurd (m.xy refl refl)
 small_three ab bc ca t true false true m = absurd (m.zx refl refl)
-small_three ab bc ca t true false false m = subst (λ (k : ℤ). unsigned_abs k ≤ 1) (sym (add_three ab.turn).0) t.first
+small_three ab bc ca t true false false m = subst (λ (k : ℤ). unsigned_abs k ≤ 1) (sym (add_three ab.sign).0) t.first
 small_three ab bc ca t false true true m = absurd (m.yz refl refl)
-small_three ab bc ca t false true false m = subst (λ (k : ℤ). unsigned_abs k ≤ 1) (sym (add_three bc.turn).1) t.second
-small_three ab bc ca t false false true m = subst (λ (k : ℤ). unsigned_abs k ≤ 1) (sym (add_three ca.turn).2) t.third
+small_three ab bc ca t false true false m = subst (λ (k : ℤ). unsigned_abs k ≤ 1) (sym (add_three bc.sign).1) t.second
+small_three ab bc ca t false false true m = subst (λ (k : ℤ). unsigned_abs k ≤ 1) (sym (add_three ca.sign).2) t.third
 small_three ab bc ca t false false false m = omega arith
 
 at_edge_forward : (edge q : Edge) → IsTrue (is_forward (pair_of edge)) → is_at_edge edge q ≡ true → IsTrue (is_forward (pair_of q))
 at_edge_forward edge q forward e = subst (λ (x : Edge). IsTrue (is_forward (pair_of x))) (edge_exact edge q e) forward
 
--- an edge that has a sum then is one that had one, or a side's
-forward_at : (sums : BTreeMap Edge ℤ) (n : ℕ) → AreSums sums n → (ab bc ca : Side) → AreForward ab.edge bc.edge ca.edge → (q : Edge) (r : Option ℤ) → sum_of sums q ≡ r → (x y z : Bool) → is_at_edge ab.edge q ≡ x → is_at_edge bc.edge q ≡ y → is_at_edge ca.edge q ≡ z → or_zero r +ℤ three ab bc ca x y z ≢ pos 0 → IsTrue (is_forward (pair_of q))
+-- an edge that has a sum then is one that had one, or a directed edge's
+forward_at : (sums : BTreeMap Edge ℤ) (n : ℕ) → AreSums sums n → (ab bc ca : DirectedEdge) → AreForward ab.edge bc.edge ca.edge → (q : Edge) (r : Option ℤ) → sum_of sums q ≡ r → (x y z : Bool) → is_at_edge ab.edge q ≡ x → is_at_edge bc.edge q ≡ y → is_at_edge ca.edge q ≡ z → or_zero r +ℤ three ab bc ca x y z ≢ pos 0 → IsTrue (is_forward (pair_of q))
 forward_at sums n h ab bc ca k q (Some v) e x y z a b c apart = (h.each q v e).forward
 forward_at sums n h ab bc ca k q None e true y z a b c apart = at_edge_forward ab.edge q k.first a
 forward_at sums n h ab bc ca k q None e false true z a b c apart = at_edge_forward bc.edge q k.second b
 forward_at sums n h ab bc ca k q None e false false true a b c apart = at_edge_forward ca.edge q k.third c
 forward_at sums n h ab bc ca k q None e false false false a b c apart = absurd (apart refl)
 
-pub sums_after : (sums last : BTreeMap Edge ℤ) (n : ℕ) (ab bc ca : Side) → AreSums sums n → AreDistinct ab.edge bc.edge ca.edge → AreForward ab.edge bc.edge ca.edge → AreTurns ab bc ca → IsTotal (sum_of sums) (sum_of last) ab bc ca → IsOrdered edge_cmp last → AreSums last (n + 1)
+pub sums_after : (sums last : BTreeMap Edge ℤ) (n : ℕ) (ab bc ca : DirectedEdge) → AreSums sums n → AreDistinct ab.edge bc.edge ca.edge → AreForward ab.edge bc.edge ca.edge → AreTurns ab bc ca → IsTotal (sum_of sums) (sum_of last) ab bc ca → IsOrdered edge_cmp last → AreSums last (n + 1)
 sums_after sums last n ab bc ca h d k t total ordered = record {
   ordered = ordered;
   each = λ q sum e.

@@ -13,7 +13,7 @@ use Rattle.std.proofs.lemmas.Map.Keys.{sorted_head, sorted_tail}
 use Rattle.std.proofs.lemmas.Map.Views.{All-found}
 use Rattle.mesh_model.specs.Nets.{Pair, is_pair_before, Ascend}
 use Rattle.edge_chain.specs.declared.edges.Edge.{Edge}
-use Rattle.edge_chain.specs.Chains.{held, AreEntries}
+use Rattle.edge_chain.specs.Chains.{kept_net, AreEntries}
 use Rattle.edge_chain.specs.Orders.{is_pair_before_is}
 use Rattle.edge_chain.specs.Entries.{entry_at, held_is}
 use Rattle.edge_chain.specs.Edges.{edge_cmp, edge_cmp_total, pair_of, edge_of}
@@ -27,7 +27,7 @@ lookup_seen [] p = refl
 lookup_seen (e ∷ es) p = ap (λ (o : Option ℤ). cond (is_at (edge_cmp (edge_of p)) e.0) (Some e.1) o) (lookup_seen es p)
 
 -- what the entries hold is what the map has
-pub held_entries : (sums : BTreeMap Edge ℤ) (p : Pair) → held (entries_of sums) p ≡ or_zero (sum_of sums (edge_of p))
+pub held_entries : (sums : BTreeMap Edge ℤ) (p : Pair) → kept_net (entries_of sums) p ≡ or_zero (sum_of sums (edge_of p))
 held_entries sums p = held_is (entries_of sums) p ∙ ap or_zero (lookup_seen sums.entries p)
 
 all_after : (k : Edge) (es : List (Edge × ℤ)) → AllByRecursion (λ q. edge_cmp k q ≡ Less) (keys_of es) → AllByRecursion (λ q. IsTrue (is_pair_before (pair_of k) q)) (keys_of (map seen es))

@@ -10,8 +10,8 @@ abbrev pub is_same_pair : Pair → Pair → Bool
 is_same_pair p q = is_same_point p.a q.a && is_same_point p.b q.b
 
 -- the integer of the pair's entry, 0 where it has none
-abbrev pub held : List (Pair × ℤ) → Pair → ℤ
-held entries pair = unwrap_or (lookup (is_same_pair pair) entries) (pos 0)
+abbrev pub kept_net : List (Pair × ℤ) → Pair → ℤ
+kept_net entries pair = unwrap_or (lookup (is_same_pair pair) entries) (pos 0)
 
 -- the sums of a list of triangles, and their number
 pub record Chain : Type 0 where
@@ -26,27 +26,27 @@ pub record AreEntries (entries : List (Pair × ℤ)) : Type 0 where
 
 -- two lists of entries hold the same at each pair, the lesser point first
 abbrev pub HoldSame : List (Pair × ℤ) → List (Pair × ℤ) → Type 0
-HoldSame here there = (p : Pair) → IsTrue (is_forward p) → held here p ≡ held there p
+HoldSame here there = (p : Pair) → IsTrue (is_forward p) → kept_net here p ≡ kept_net there p
 
 -- one more triangle: each pair grows by the triangle's net
 pub record Adds (triangle : Triangle) (before after : Chain) : Type 0 where
   pub count : after.count ≡ before.count + 1
-  pub nets : (p : Pair) → IsTrue (is_forward p) → held after.entries p ≡ held before.entries p +ℤ net (triangle ∷ []) p.a p.b
+  pub nets : (p : Pair) → IsTrue (is_forward p) → kept_net after.entries p ≡ kept_net before.entries p +ℤ net (triangle ∷ []) p.a p.b
   pub entries : AreEntries after.entries
 
 -- the chain holds the net of the triangles at each pair
 pub record IsNetOf (triangles : List Triangle) (chain : Chain) : Type 0 where
   pub count : chain.count ≡ length triangles
-  pub nets : (p : Pair) → IsTrue (is_forward p) → held chain.entries p ≡ net triangles p.a p.b
+  pub nets : (p : Pair) → IsTrue (is_forward p) → kept_net chain.entries p ≡ net triangles p.a p.b
   pub entries : AreEntries chain.entries
 
 -- the pair is the least at which the lists differ, with what each holds there
 pub record IsFirstDifference (here there : List (Pair × ℤ)) (difference : Difference) : Type 0 where
   pub forward : IsTrue (is_before difference.a difference.b)
-  pub here_is : held here (record { a = difference.a; b = difference.b }) ≡ difference.here
-  pub there_is : held there (record { a = difference.a; b = difference.b }) ≡ difference.there
+  pub here_is : kept_net here (record { a = difference.a; b = difference.b }) ≡ difference.here
+  pub there_is : kept_net there (record { a = difference.a; b = difference.b }) ≡ difference.there
   pub differs : difference.here ≢ difference.there
-  pub least : (p : Pair) → IsTrue (is_forward p) → IsTrue (is_pair_before p (record { a = difference.a; b = difference.b })) → held here p ≡ held there p
+  pub least : (p : Pair) → IsTrue (is_forward p) → IsTrue (is_pair_before p (record { a = difference.a; b = difference.b })) → kept_net here p ≡ kept_net there p
 
 -- the pair is the least, the lesser point first, at which the nets differ, with both nets
 pub record IsFirstNetDifference (first second : List Triangle) (difference : Difference) : Type 0 where

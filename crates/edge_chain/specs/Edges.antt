@@ -6,7 +6,7 @@ use Rattle.std.proofs.lemmas.Map.Lookups.{CmpEqualImpliesEq}
 use Rattle.grid_vertex.specs.declared.points.Point.{Point}
 use Rattle.mesh_model.specs.Nets.{Pair, is_before}
 use Rattle.edge_chain.specs.declared.edges.Edge.{Edge}
-use Rattle.edge_chain.specs.declared.edges.Side.{Side}
+use Rattle.edge_chain.specs.declared.edges.DirectedEdge.{DirectedEdge}
 use Rattle.edge_chain.specs.contracts.edges.EdgeOrd.TheImpl as edge_order
 use Rattle.edge_chain.specs.Orders.{pair_cmp_total, pair_cmp_exact}
 
@@ -21,9 +21,9 @@ pair_of edge = record { a = edge.a; b = edge.b }
 abbrev pub edge_of : Pair → Edge
 edge_of pair = record { a = pair.a; b = pair.b }
 
--- the side from one point to another
-abbrev pub side_of : Point → Point → Side
-side_of from to = if is_before from to then record { edge = record { a = from; b = to }; turn = pos 1 } else record { edge = record { a = to; b = from }; turn = negsuc 0 }
+-- the directed edge from one point to another
+abbrev pub side_of : Point → Point → DirectedEdge
+side_of from to = if is_before from to then record { edge = record { a = from; b = to }; sign = pos 1 } else record { edge = record { a = to; b = from }; sign = negsuc 0 }
 
 pub edge_cmp_total : IsTotalOrder edge_cmp
 edge_cmp_total = on_total pair_of pair_cmp_total

@@ -11,7 +11,7 @@ use Rattle.std.specs.BTreeMap.{is_at}
 use Rattle.std.proofs.lemmas.Cmp.{eq_by_cmp_equiv}
 use Rattle.std.proofs.lemmas.Map.Views.{tells_apart, Contains-from_lookup, Contains-keys_from_lookup, IsSome-lookup_from_Contains}
 use Rattle.mesh_model.specs.Nets.{Pair, is_forward, is_pair_before, Ascend}
-use Rattle.edge_chain.specs.Chains.{held, AreEntries, HoldSame}
+use Rattle.edge_chain.specs.Chains.{kept_net, AreEntries, HoldSame}
 use Rattle.edge_chain.specs.Gaps.{Gap, first_gap, IsGap, IsTight, gap_key, gap_is}
 use Rattle.edge_chain.specs.Orders.{pair_cmp, pair_cmp_total, pair_cmp_exact, is_same_pair_is, is_pair_before_is}
 
@@ -19,7 +19,7 @@ use Rattle.edge_chain.specs.Orders.{pair_cmp, pair_cmp_total, pair_cmp_exact, is
 abbrev pub entry_at : List (Pair × ℤ) → Pair → Option ℤ
 entry_at entries p = lookup (is_at (pair_cmp p)) entries
 
-pub held_is : (entries : List (Pair × ℤ)) (p : Pair) → held entries p ≡ unwrap_or (entry_at entries p) (pos 0)
+pub held_is : (entries : List (Pair × ℤ)) (p : Pair) → kept_net entries p ≡ unwrap_or (entry_at entries p) (pos 0)
 held_is entries p = ap (λ (test : Pair → Bool). unwrap_or (lookup test entries) (pos 0)) (λ i q. is_same_pair_is p q i)
 
 less_from_lt : (o : Ordering) → is_lt o ≡ true → o ≡ Less
@@ -47,14 +47,14 @@ some_from_held : (found : Option ℤ) (v : ℤ) → unwrap_or found (pos 0) ≡ 
 some_from_held None v e h = absurd (h (sym e))
 some_from_held (Some w) v e h = refl
 
-pub contains_key_from_held : (entries : List (Pair × ℤ)) (p : Pair) → held entries p ≢ pos 0 → Contains (keys_of entries) p
+pub contains_key_from_held : (entries : List (Pair × ℤ)) (p : Pair) → kept_net entries p ≢ pos 0 → Contains (keys_of entries) p
 contains_key_from_held entries p h =
-    Contains-keys_from_lookup (tells_apart pair_cmp_exact) p entries (some_from_held (entry_at entries p) (held entries p) (sym (held_is entries p)) h)
+    Contains-keys_from_lookup (tells_apart pair_cmp_exact) p entries (some_from_held (entry_at entries p) (kept_net entries p) (sym (held_is entries p)) h)
 
 -- what is known at a pair that has an entry
 pub record IsEntry (entries : List (Pair × ℤ)) (p : Pair) : Type 0 where
   pub forward : IsTrue (is_forward p)
-  pub not_zero : held entries p ≢ pos 0
+  pub not_zero : kept_net entries p ≢ pos 0
 
 entry_known : (entries : List (Pair × ℤ)) → AreEntries entries → (p : Pair) (found : Option ℤ) → entry_at entries p ≡ found → IsSome found → IsEntry entries p
 entry_known entries h p None e there = absurd cc

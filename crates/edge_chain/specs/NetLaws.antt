@@ -11,7 +11,7 @@ use Rattle.grid_vertex.specs.declared.triangles.Triangle.{Triangle}
 use Rattle.mesh_model.specs.Nets.{times, net, Pair, is_before, is_forward, AreOpen, HaveOneNet}
 use Rattle.mesh_model.specs.NetLaws.{times-append}
 use Rattle.edge_chain.specs.declared.differences.Difference.{Difference}
-use Rattle.edge_chain.specs.Chains.{held, Chain, HoldSame, Adds, IsNetOf, IsFirstDifference, IsFirstNetDifference}
+use Rattle.edge_chain.specs.Chains.{kept_net, Chain, HoldSame, Adds, IsNetOf, IsFirstDifference, IsFirstNetDifference}
 use Rattle.edge_chain.specs.Orders.{point_cmp, point_cmp_total, point_cmp_exact, is_before_is}
 use Rattle.edge_chain.specs.Entries.{entry_from_key, contains_key_from_held, entries_from_held}
 
@@ -75,7 +75,7 @@ one_net_iff first second here there h k = (
 -- so do their entries
 pub same_entries_iff : (first second : List Triangle) (here there : Chain) → IsNetOf first here → IsNetOf second there → (here.entries ≡ there.entries) ↔ HaveOneNet first second
 same_entries_iff first second here there h k = (
-  λ e. (one_net_iff first second here there h k).0 (λ p _. ap (λ (es : List (Pair × ℤ)). held es p) e),
+  λ e. (one_net_iff first second here there h k).0 (λ p _. ap (λ (es : List (Pair × ℤ)). kept_net es p) e),
   λ one. entries_from_held here.entries there.entries h.entries k.entries ((one_net_iff first second here there h k).1 one),
 )
 

@@ -6,7 +6,7 @@ use Rattle.std.specs.BTreeMap.{BTreeMap, get, IsOrdered}
 use Rattle.mesh_model.specs.Nets.{Pair, is_forward}
 use Rattle.edge_chain.specs.Chains.{Chain}
 use Rattle.edge_chain.specs.declared.edges.Edge.{Edge}
-use Rattle.edge_chain.specs.declared.edges.Side.{Side}
+use Rattle.edge_chain.specs.declared.edges.DirectedEdge.{DirectedEdge}
 use Rattle.edge_chain.specs.Edges.{edge_cmp, pair_of}
 
 -- the edge's sum, if it has one
@@ -30,20 +30,20 @@ abbrev pub with_sum : (Edge → Option ℤ) → Edge → Option ℤ → Edge →
 with_sum sums edge sum = update is_at_edge sums edge sum
 
 -- the edge has a sum, 0 if it had none
-abbrev pub placed : (Edge → Option ℤ) → Edge → Edge → Option ℤ
-placed sums edge = with_sum sums edge (Some (or_zero (sums edge)))
+abbrev pub sums_with_place : (Edge → Option ℤ) → Edge → Edge → Option ℤ
+sums_with_place sums edge = with_sum sums edge (Some (or_zero (sums edge)))
 
 -- the edge has no sum if that is 0
-abbrev pub tidied : (Edge → Option ℤ) → Edge → Edge → Option ℤ
-tidied sums edge = with_sum sums edge (unless_zero (sums edge))
+abbrev pub sums_without_zero : (Edge → Option ℤ) → Edge → Edge → Option ℤ
+sums_without_zero sums edge = with_sum sums edge (unless_zero (sums edge))
 
--- a sum with the side's turn added
-abbrev pub turned : Side → Option ℤ → Option ℤ
-turned side sum = option_map (λ s. s +ℤ side.turn) sum
+-- a sum with the directed edge's sign added
+abbrev pub signed_sum : DirectedEdge → Option ℤ → Option ℤ
+signed_sum directed sum = option_map (λ s. s +ℤ directed.sign) sum
 
--- the side is added to its edge's sum, which goes if it is 0
-abbrev pub raised : (Edge → Option ℤ) → Side → Edge → Option ℤ
-raised sums side = with_sum sums side.edge (unless_zero (turned side (sums side.edge)))
+-- the directed edge is added to its edge's sum, which goes if it is 0
+abbrev pub sums_with_edge : (Edge → Option ℤ) → DirectedEdge → Edge → Option ℤ
+sums_with_edge sums directed = with_sum sums directed.edge (unless_zero (signed_sum directed (sums directed.edge)))
 
 -- the map has these sums, in order
 pub record HasSums (sums : BTreeMap Edge ℤ) (wanted : Edge → Option ℤ) : Type 0 where

@@ -8,7 +8,7 @@ ghost use Rattle.mesh_model.specs.Nets.{AreOpen, HaveOneNet};
 ghost use Rattle.edge_chain.specs.Chains.{HoldSame, Adds, IsNetOf, IsFirstDifference, IsFirstNetDifference};
 
 use crate::differences::{Difference, first_gap};
-use crate::edges::Side;
+use crate::edges::DirectedEdge;
 use crate::sums::{Sums, place_each, raise};
 use grid_vertex::{NoMemory, Triangle};
 use std::alloc::Global;
@@ -58,9 +58,9 @@ impl EdgeChain {
         ensures nets { OnOk result ((triangles : List Triangle) → IsNetOf triangles self.old → IsNetOf (triangles ++ triangle ∷ []) self.new) }
         ensures unchanged { OnErr result (self.new ≡ self.old) }
     {
-        let ab = Side::between(triangle.a, triangle.b);
-        let bc = Side::between(triangle.b, triangle.c);
-        let ca = Side::between(triangle.c, triangle.a);
+        let ab = DirectedEdge::between(triangle.a, triangle.b);
+        let bc = DirectedEdge::between(triangle.b, triangle.c);
+        let ca = DirectedEdge::between(triangle.c, triangle.a);
         place_each(&mut self.sums, ab.edge, bc.edge, ca.edge)?;
         raise(&mut self.sums, ab);
         raise(&mut self.sums, bc);

@@ -12,27 +12,27 @@ pub struct Edge {
     pub b: Point,
 }
 
-/// A side of a triangle: its edge, and 1 where it goes from the lesser point to the greater, else -1.
+/// A directed edge of a triangle: its edge, and 1 where it goes from the lesser point to the greater, else -1.
 #[derive(Clone, Copy, Debug, PartialEq, Eq)]
-pub struct Side {
+pub struct DirectedEdge {
     pub edge: Edge,
-    pub turn: i64,
+    pub sign: i64,
 }
 
-impl Side {
-    /// The side that goes from one point to another.
-    pub fn between(from: Point, to: Point) -> Side
+impl DirectedEdge {
+    /// The directed edge that goes from one point to another.
+    pub fn between(from: Point, to: Point) -> DirectedEdge
         ensures { result ≡ side_of from to }
     {
         if from.cmp(&to).is_lt() {
-            Side {
+            DirectedEdge {
                 edge: Edge { a: from, b: to },
-                turn: 1,
+                sign: 1,
             }
         } else {
-            Side {
+            DirectedEdge {
                 edge: Edge { a: to, b: from },
-                turn: -1,
+                sign: -1,
             }
         }
     }

@@ -5,11 +5,11 @@ ghost use Rattle.std.specs.BTreeMap.{IsOrdered};
 ghost use Rattle.std.specs.Option.{option_eq};
 ghost use Rattle.std.specs.Ordering.{int_eq};
 ghost use Rattle.edge_chain.specs.Edges.{edge_cmp};
-ghost use Rattle.edge_chain.specs.Sums.{sum_of, with_sum, unless_zero, placed, tidied, turned, raised, is_at_edge, HasSums};
+ghost use Rattle.edge_chain.specs.Sums.{sum_of, with_sum, unless_zero, sums_with_place, sums_without_zero, signed_sum, sums_with_edge, is_at_edge, HasSums};
 ghost use Rattle.edge_chain.specs.declared.edges.Edge.{Edge};
 ghost use mir.Syntax.{w64};
 
-use crate::edges::{Edge, Side};
+use crate::edges::{DirectedEdge, Edge};
 use grid_vertex::NoMemory;
 use std::collections::BTreeMap;
 
@@ -19,7 +19,7 @@ pub type Sums = BTreeMap<Edge, i64>;
 /// Makes room for the edge's sum, with 0 where it has none.
 pub fn place(sums: &mut Sums, edge: Edge) -> Result<(), NoMemory>
     requires { IsOrdered edge_cmp sums.old }
-    ensures placed { OnOk result (HasSums sums.new (placed (sum_of sums.old) edge)) }
+    ensures placed { OnOk result (HasSums sums.new (sums_with_place (sum_of sums.old) edge)) }
     ensures unplaced { OnErr result (sums.new.entries ≡ sums.old.entries) }
 {
     sums.entry(edge)?.or_insert(0);
@@ -29,35 +29,35 @@ pub fn place(sums: &mut Sums, edge: Edge) -> Result<(), NoMemory>
 /// Takes the edge out where its sum is 0.
 pub fn tidy(sums: &mut Sums, edge: Edge)
     requires { IsOrdered edge_cmp sums.old }
-    ensures { HasSums sums.new (tidied (sum_of sums.old) edge) }
+    ensures { HasSums sums.new (sums_without_zero (sum_of sums.old) edge) }
 {
     if sums.get(&edge).copied() == Some(0) {
         sums.remove(&edge);
     }
 }
 
-/// Adds the side's turn to its edge's sum, and tells whether that is 0 then.
-fn turn_sum(sums: &mut Sums, side: Side) -> bool
+/// Adds the directed edge's sign to its edge's sum, and tells whether that is 0 then.
+fn turn_sum(sums: &mut Sums, directed: DirectedEdge) -> bool
     requires ordered { IsOrdered edge_cmp sums.old }
-    requires fits { IfSome (sum_of sums.old side.edge) (λ sum. FitsSigned w64 (sum +ℤ side.turn)) }
-    ensures turned { HasSums sums.new (with_sum (sum_of sums.old) side.edge (turned side (sum_of sums.old side.edge))) }
-    ensures zero { result ≡ option_eq int_eq (turned side (sum_of sums.old side.edge)) (Some (pos 0)) }
+    requires fits { IfSome (sum_of sums.old directed.edge) (λ sum. FitsSigned w64 (sum +ℤ directed.sign)) }
+    ensures turned { HasSums sums.new (with_sum (sum_of sums.old) directed.edge (signed_sum directed (sum_of sums.old directed.edge))) }
+    ensures zero { result ≡ option_eq int_eq (signed_sum directed (sum_of sums.old directed.edge)) (Some (pos 0)) }
 {
-    let Some(sum) = sums.get_mut(&side.edge) else {
+    let Some(sum) = sums.get_mut(&directed.edge) else {
         return false;
     };
-    *sum += side.turn;
+    *sum += directed.sign;
     *sum == 0
 }
 
-/// Adds the side to its edge's sum, and takes the edge out where that is 0 then.
-pub fn raise(sums: &mut Sums, side: Side)
+/// Adds the directed edge to its edge's sum, and takes the edge out where that is 0 then.
+pub fn raise(sums: &mut Sums, directed: DirectedEdge)
     requires ordered { IsOrdered edge_cmp sums.old }
-    requires fits { IfSome (sum_of sums.old side.edge) (λ sum. FitsSigned w64 (sum +ℤ side.turn)) }
-    ensures { HasSums sums.new (raised (sum_of sums.old) side) }
+    requires fits { IfSome (sum_of sums.old directed.edge) (λ sum. FitsSigned w64 (sum +ℤ directed.sign)) }
+    ensures { HasSums sums.new (sums_with_edge (sum_of sums.old) directed) }
 {
-    if turn_sum(sums, side) {
-        sums.remove(&side.edge);
+    if turn_sum(sums, directed) {
+        sums.remove(&directed.edge);
     }
 }
 
@@ -65,7 +65,7 @@ pub fn raise(sums: &mut Sums, side: Side)
 fn place_both(sums: &mut Sums, first: Edge, second: Edge) -> Result<(), NoMemory>
     requires ordered { IsOrdered edge_cmp sums.old }
     requires tidy { sum_of sums.old first ≡ unless_zero (sum_of sums.old first) }
-    ensures placed { OnOk result (HasSums sums.new (placed (placed (sum_of sums.old) first) second)) }
+    ensures placed { OnOk result (HasSums sums.new (sums_with_place (sums_with_place (sum_of sums.old) first) second)) }
     ensures unplaced { OnErr result (HasSums sums.new (sum_of sums.old)) }
 {
     place(sums, first)?;
@@ -83,7 +83,7 @@ pub fn place_each(sums: &mut Sums, first: Edge, second: Edge, third: Edge) -> Re
     requires ordered { IsOrdered edge_cmp sums.old }
     requires apart { is_at_edge first second ≡ false }
     requires tidy { (edge : Edge) → sum_of sums.old edge ≡ unless_zero (sum_of sums.old edge) }
-    ensures placed { OnOk result (HasSums sums.new (placed (placed (placed (sum_of sums.old) first) second) third)) }
+    ensures placed { OnOk result (HasSums sums.new (sums_with_place (sums_with_place (sums_with_place (sum_of sums.old) first) second) third)) }
     ensures unplaced { OnErr result (HasSums sums.new (sum_of sums.old)) }
 {
     place(sums, first)?;

@@ -4,8 +4,8 @@ use Rattle.std.proofs.lemmas.List.{length-map}
 use Rattle.mesh_model.specs.Meshes.{MeshLists, IsMesh}
 use Rattle.round_model.specs.Scores.{score_of}
 use Rattle.round_laws.specs.Parents.{FallsAlong, falls_from_eye}
-use Rattle.error_metric.specs.Wants.{rules_of}
-use Rattle.error_metric.specs.Views.{ViewSeen}
+use Rattle.round_model.specs.Views.{rules_of}
+use Rattle.round_model.specs.Views.{ViewSeen}
 
 pub as_many_scores : (seen : ViewSeen) (mesh : MeshLists) → length (map (score_of seen.eye seen.focal) mesh.index.nodes) ≡ length mesh.index.nodes
 as_many_scores seen mesh = length-map mesh.index.nodes (score_of seen.eye seen.focal)

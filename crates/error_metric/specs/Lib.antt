@@ -1,3 +1,1 @@
-pub mod Wants
-pub mod Views
 pub mod Laws

@@ -4,12 +4,12 @@ ghost use Rattle.std.specs.Prelude.{◌≡◌, map};
 ghost use Rattle.grid_vertex.specs.Points.{is_within, is_point_within};
 ghost use Rattle.file_model.specs.Rules.{is_between};
 ghost use Rattle.round_model.specs.Scores.{score_of};
-ghost use Rattle.error_metric.specs.Views.{is_view, view_of};
+ghost use Rattle.round_model.specs.Views.{is_view, view_of};
 ghost use Rattle.error_metric.specs.Laws.{as_many_scores, scores_fall};
 
 use crate::scores::score_of_node;
 use crate::wants::Want;
-use dag_check::Mesh;
+use accepted_mesh::Mesh;
 use grid_vertex::Point;
 use std::marker::Model;
 
@@ -30,7 +30,7 @@ pub struct View {
 
 impl Model for View {
     ghost use Rattle.std.specs.Prelude.{IsTrue};
-    ghost use Rattle.error_metric.specs.Views.{ViewSeen, is_view};
+    ghost use Rattle.round_model.specs.Views.{ViewSeen, is_view};
 
     ghost Value = { ViewSeen };
 

@@ -4,3 +4,4 @@ pub mod Spelling
 pub mod Rules
 pub mod Reading
 pub mod Answers
+pub mod Tries

@@ -16,6 +16,17 @@ pub record BodyLists : Type 0 where
   pub points : List Point
   pub corners : List Corners
 
+-- a body as it is held: its patch, its version, and its points and corners with the bytes that spell them
+pub record SeenBody : Type 0 where
+  pub patch : ℕ
+  pub version : ℕ
+  pub lists : BodyLists
+  pub bytes : List ℕ
+
+-- stands where there is no body
+abbrev pub no_body : SeenBody
+no_body = record { patch = 0; version = 1; lists = record { points = []; corners = [] }; bytes = [] }
+
 -- what a file says before its bodies
 pub record IndexLists : Type 0 where
   pub version : ℕ

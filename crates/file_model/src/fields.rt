@@ -1,5 +1,8 @@
 //! The records of a patch file.
 
+ghost use Rattle.std.specs.Prelude.{◌≡◌};
+ghost use Rattle.file_model.specs.Tries.{is_odd};
+
 use grid_vertex::Ball;
 
 /// A node of the graph: the ball round its part of the surface, and how far its parent's surface
@@ -25,4 +28,11 @@ pub struct PatchField {
 pub struct Try {
     pub patch: u32,
     pub epoch: u32,
+}
+
+/// Tells whether the epoch grants a try: exactly the odd ones do.
+pub fn is_granted(epoch: u32) -> bool
+    ensures { result ≡ is_odd epoch }
+{
+    epoch % 2 == 1
 }

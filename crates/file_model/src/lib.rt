@@ -1,6 +1,6 @@
 //! What a patch file is: its records, its one spelling, its rules, and reading it with the first fault.
 //!
-//! Code is only the records; the definitions stand in `specs/`, and `docs/FORMAT.md` tells them in
+//! Code is only the records and the test of an epoch; the definitions stand in `specs/`, and `docs/FORMAT.md` tells them in
 //! prose.
 #![tactic(auto)]
 
@@ -9,5 +9,5 @@ mod fields;
 mod refusals;
 
 pub use faults::FileFault;
-pub use fields::{Node, PatchField, Try};
+pub use fields::{Node, PatchField, Try, is_granted};
 pub use refusals::{ReadRefusal, WriteFault};

@@ -8,7 +8,7 @@ use Rattle.grid_vertex.specs.declared.triangles.Triangle.{Triangle}
 use Rattle.file_model.specs.Lists.{triangles_of}
 use Rattle.text_model.specs.FrameText.{Frame, head_line, cut_line, tries_line, patches_line, triangle_line, front_lines, frame_text}
 use Rattle.text_model.specs.Lines.{Adds}
-use Rattle.patch_body.specs.Seen.{SeenBody}
+use Rattle.file_model.specs.Lists.{SeenBody}
 use Rattle.frame_writer.specs.Appending.{Adds-then}
 use Rattle.frame_writer.specs.Frames.{triangles_in}
 

@@ -6,7 +6,7 @@ use Rattle.file_model.specs.declared.fields.Try.{Try}
 use Rattle.file_model.specs.Lists.{triangles_of}
 use Rattle.text_model.specs.FrameText.{Frame, IsFrameText}
 use Rattle.text_model.specs.Lines.{Adds}
-use Rattle.patch_body.specs.Seen.{SeenBody}
+use Rattle.file_model.specs.Lists.{SeenBody}
 
 -- the triangles of the bodies, in order
 abbrev pub triangles_in : List SeenBody → List Triangle

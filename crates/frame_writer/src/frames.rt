@@ -3,7 +3,7 @@
 ghost use Rattle.std.specs.Prelude.{◌≡◌, ◌≤◌, true, List, [], length, map, OnOk, OnErr};
 ghost use Rattle.std.specs.Arc.{arc_value};
 ghost use Rattle.edge_chain.specs.Chains.{IsNetOf};
-ghost use Rattle.patch_body.specs.Seen.{SeenBody};
+ghost use Rattle.file_model.specs.Lists.{SeenBody};
 ghost use Rattle.text_model.specs.FrameText.{head_line, tries_line};
 ghost use Rattle.text_model.specs.Lines.{Adds, begins_line, line_of, decimals};
 ghost use Rattle.frame_writer.specs.Appending.{Begins};

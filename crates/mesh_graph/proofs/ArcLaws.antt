@@ -12,7 +12,7 @@ use Rattle.mesh_model.specs.Chosen.{chosen_few}
 use Rattle.mesh_graph.specs.declared.sides.Side.{Side}
 use Rattle.mesh_graph.specs.declared.sides.Side.TheVariants.{Incoming, Outgoing}
 use Rattle.mesh_graph.specs.Sides.{node_on, touches, patches_at}
-use Rattle.mesh_graph.specs.Arcs.{AreArcs}
+use Rattle.mesh_graph.specs.Adjacency.{IsAdjacency}
 use Rattle.mesh_graph.specs.Chains.{HaveNodes}
 use Rattle.mesh_graph.specs.Levels.{IsOpen, HasOpenParent, AreLevels, IsLevelOver, IsNextLevel, head_of}
 use Rattle.mesh_graph.proofs.LevelLaws.{IsPassing, passing_from, among_from, level_from_over, room_over}
@@ -21,7 +21,7 @@ abbrev no_field : PatchField
 no_field = record { tail = 0; head = 0; points = 0; triangles = 0 }
 
 -- a node's list has its patches
-pub list_is : (side : Side) (fields : List PatchField) (nodes : ℕ) (lists : List (List ℕ)) (v : ℕ) (ps : List ℕ) → AreArcs side fields nodes lists → v < nodes → slice_get lists v ≡ Some ps → ps ≡ patches_at side fields v
+pub list_is : (side : Side) (fields : List PatchField) (nodes : ℕ) (lists : List (List ℕ)) (v : ℕ) (ps : List ℕ) → IsAdjacency side fields nodes lists → v < nodes → slice_get lists v ≡ Some ps → ps ≡ patches_at side fields v
 list_is side fields nodes lists v ps arcs v_in is = let e : Some ps ≡ Some (patches_at side fields v) = sym is ∙ arcs.each v v_in in cc
 
 -- a patch of a node's list
@@ -45,11 +45,11 @@ in_range side fields v k d k_in =
     let is : IsAmong side fields v (get_or (patches_at side fields v) k d) = among side fields v (get_or (patches_at side fields v) k d) (Contains-get_or (patches_at side fields v) k d k_in) in
     slice_get_within fields (get_or (patches_at side fields v) k d) is.field is.there
 
-pub list_in_range : (side : Side) (fields : List PatchField) (nodes : ℕ) (lists : List (List ℕ)) (v : ℕ) (ps : List ℕ) → AreArcs side fields nodes lists → v < nodes → slice_get lists v ≡ Some ps → All (λ p. p < length fields) ps
+pub list_in_range : (side : Side) (fields : List PatchField) (nodes : ℕ) (lists : List (List ℕ)) (v : ℕ) (ps : List ℕ) → IsAdjacency side fields nodes lists → v < nodes → slice_get lists v ≡ Some ps → All (λ p. p < length fields) ps
 list_in_range side fields nodes lists v ps arcs v_in is = rw (list_is side fields nodes lists v ps arcs v_in is) (in_range side fields v)
 
 -- a node has no more patches than there are
-pub list_few : (side : Side) (fields : List PatchField) (nodes : ℕ) (lists : List (List ℕ)) (v : ℕ) (ps : List ℕ) → AreArcs side fields nodes lists → v < nodes → slice_get lists v ≡ Some ps → length ps ≤ length fields
+pub list_few : (side : Side) (fields : List PatchField) (nodes : ℕ) (lists : List (List ℕ)) (v : ℕ) (ps : List ℕ) → IsAdjacency side fields nodes lists → v < nodes → slice_get lists v ≡ Some ps → length ps ≤ length fields
 list_few side fields nodes lists v ps arcs v_in is = rw (list_is side fields nodes lists v ps arcs v_in is) (chosen_few (touches side v) fields)
 
 -- an incoming patch from a node without a level

@@ -7,11 +7,11 @@ use Rattle.file_model.specs.declared.fields.Node.{Node}
 use Rattle.file_model.specs.declared.fields.PatchField.{PatchField}
 use Rattle.mesh_model.specs.Accepted.{nested_by}
 use Rattle.mesh_graph.specs.declared.sides.Side.TheVariants.{Outgoing}
-use Rattle.mesh_graph.specs.Arcs.{AreArcs, is_bare_at}
+use Rattle.mesh_graph.specs.Adjacency.{IsAdjacency, is_bare_at}
 use Rattle.mesh_graph.proofs.RootLaws.{bare_is}
 
 -- the test at the nodes of a list, where both ends are there
-pub nested_is : (test : Node → Node → Bool) (fields : List PatchField) (nodes : List Node) (lists : List (List ℕ)) (f : PatchField) (d : Node) → AreArcs Outgoing fields (length nodes) lists → f.tail < length nodes → f.head < length nodes
+pub nested_is : (test : Node → Node → Bool) (fields : List PatchField) (nodes : List Node) (lists : List (List ℕ)) (f : PatchField) (d : Node) → IsAdjacency Outgoing fields (length nodes) lists → f.tail < length nodes → f.head < length nodes
     → nested_by test fields (slice_get nodes f.tail) (slice_get nodes f.head) f.head ≡ (is_bare_at lists f.head || test (get_or nodes f.tail d) (get_or nodes f.head d))
 nested_is test fields nodes lists f d arcs tail head =
     ap (λ (o : Option Node). nested_by test fields o (slice_get nodes f.head) f.head) (slice_get-get_or nodes f.tail d tail)

@@ -10,7 +10,7 @@ use Rattle.mesh_model.specs.Graph.{patches_from, numbers_from, nodes_where, root
 use Rattle.mesh_graph.specs.declared.sides.Side.{Side}
 use Rattle.mesh_graph.specs.declared.sides.Side.TheVariants.{Incoming}
 use Rattle.mesh_graph.specs.Sides.{touches}
-use Rattle.mesh_graph.specs.Arcs.{AreArcs, is_empty_list, is_bare_at}
+use Rattle.mesh_graph.specs.Adjacency.{IsAdjacency, is_empty_list, is_bare_at}
 
 bare-by : (start : ℕ) (ps : List ℕ) (t any : Bool) → is_empty_list (Some ps) ≡ not any → is_empty_list (Some (if t then start ∷ ps else ps)) ≡ not (t || any)
 bare-by start ps true any h = refl
@@ -22,7 +22,7 @@ bare_from test [] start = refl
 bare_from test (f ∷ fs) start = bare-by start (patches_from (start + 1) test fs) (test f) (list_any test fs) (bare_from test fs (start + 1))
 
 -- a node is bare where no patch touches it
-pub bare_is : (side : Side) (fields : List PatchField) (nodes : ℕ) (lists : List (List ℕ)) (v : ℕ) → AreArcs side fields nodes lists → v < nodes → is_bare_at lists v ≡ not (list_any (touches side v) fields)
+pub bare_is : (side : Side) (fields : List PatchField) (nodes : ℕ) (lists : List (List ℕ)) (v : ℕ) → IsAdjacency side fields nodes lists → v < nodes → is_bare_at lists v ≡ not (list_any (touches side v) fields)
 bare_is side fields nodes lists v arcs v_in = ap is_empty_list (arcs.each v v_in) ∙ bare_from (touches side v) fields 0
 
 numbers-by : (first : ℕ) (xs ys : List ℕ) (s t : Bool) → s ≡ t → xs ≡ ys → (if s then first ∷ xs else xs) ≡ (if t then first ∷ ys else ys)
@@ -39,7 +39,7 @@ numbers_same f g (suc n) first same =
     (numbers_same f g n (first + 1) (λ v low high. same v (omega arith) (omega arith)))
 
 -- the bare nodes are the roots
-pub roots_are : (fields : List PatchField) (nodes : ℕ) (lists : List (List ℕ)) → AreArcs Incoming fields nodes lists → nodes_where nodes (is_bare_at lists) ≡ roots nodes fields
+pub roots_are : (fields : List PatchField) (nodes : ℕ) (lists : List (List ℕ)) → IsAdjacency Incoming fields nodes lists → nodes_where nodes (is_bare_at lists) ≡ roots nodes fields
 roots_are fields nodes lists arcs = numbers_same (is_bare_at lists) (is_root fields) nodes 0 (λ v low high. bare_is Incoming fields nodes lists v arcs (omega arith))
 
 -- the root that was found, and those to come

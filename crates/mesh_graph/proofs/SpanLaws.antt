@@ -9,7 +9,7 @@ use Rattle.mesh_graph.specs.declared.sides.Side.{Side}
 use Rattle.mesh_graph.specs.declared.arcs.Span.{Span}
 use Rattle.mesh_graph.specs.Sides.{patches_at}
 use Rattle.mesh_graph.specs.Spans.{list_in, lists_in, IsSpan, AreSpans}
-use Rattle.mesh_graph.specs.Arcs.{AreArcs}
+use Rattle.mesh_graph.specs.Adjacency.{IsAdjacency}
 use Rattle.mesh_graph.specs.ListReads.{slice_get-there}
 
 pub slice_get-push_cases : {X : Type 0} → (xs : List X) (y : X) (i : ℕ) (x : X) → slice_get (xs ++ y ∷ []) i ≡ Some x → (slice_get xs i ≡ Some x) ⊎ ((i ≡ length xs) × (y ≡ x))
@@ -56,7 +56,7 @@ spans_more side fields patches more spans span are is start end =
     }
 
 -- the spans of all nodes
-pub arcs_from_spans : (side : Side) (fields : List PatchField) (nodes : ℕ) (patches : List ℕ) (spans : List Span) → length spans ≡ nodes → AreSpansOf side fields patches spans → AreArcs side fields nodes (lists_in patches spans)
+pub arcs_from_spans : (side : Side) (fields : List PatchField) (nodes : ℕ) (patches : List ℕ) (spans : List Span) → length spans ≡ nodes → AreSpansOf side fields patches spans → IsAdjacency side fields nodes (lists_in patches spans)
 arcs_from_spans side fields nodes patches spans as_many are = record {
   as_many = length-map spans (list_in patches) ∙ as_many;
   each = λ v v_in.

@@ -10,7 +10,7 @@ use Rattle.file_model.specs.Lists.{IndexLists}
 use Rattle.mesh_model.specs.Walks.{IsGrounded, IsLevel}
 use Rattle.mesh_model.specs.Accepted.{AllGrounded, IsLeastUngrounded, IsGraphFault}
 use Rattle.mesh_graph.specs.declared.sides.Side.TheVariants.{Incoming, Outgoing}
-use Rattle.mesh_graph.specs.Arcs.{AreArcs, is_bare_at}
+use Rattle.mesh_graph.specs.Adjacency.{IsAdjacency, is_bare_at}
 use Rattle.mesh_graph.specs.Levels.{AreAllLevels, IsLeastWithout, level_grounds}
 use Rattle.mesh_graph.specs.Graphs.{index_of, GraphSeen, IsGraphOf}
 use Rattle.mesh_graph.specs.ListReads.{slice_get-there}
@@ -22,7 +22,7 @@ one_root_by [] root e = absurd cc
 one_root_by (a ∷ []) root e = let s : root ≡ a = cc in ap (λ r. r ∷ []) (sym s)
 one_root_by (a ∷ b ∷ others) root e = absurd cc
 
-module _ (version : ℕ) (nodes : List Node) (fields : List PatchField) (lists : List (List ℕ)) (arcs : AreArcs Incoming fields (length nodes) lists) where
+module _ (version : ℕ) (nodes : List Node) (fields : List PatchField) (lists : List (List ℕ)) (arcs : IsAdjacency Incoming fields (length nodes) lists) where
   roots_is : only_root (nodes_where (length lists) (is_bare_at lists)) ≡ only_root (roots (length nodes) fields)
   roots_is = ap only_root (ap (λ n. nodes_where n (is_bare_at lists)) arcs.as_many ∙ roots_are fields (length nodes) lists arcs)
 

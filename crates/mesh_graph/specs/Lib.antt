@@ -1,7 +1,7 @@
 pub mod Sides
 pub mod Chains
 pub mod Spans
-pub mod Arcs
+pub mod Adjacency
 pub mod Levels
 pub mod Graphs
 pub mod Nesting

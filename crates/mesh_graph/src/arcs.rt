@@ -2,7 +2,7 @@
 
 ghost use Rattle.std.specs.Prelude.{◌≡◌, ◌<◌, ◌≤◌, length, slice_get, Some, IfOk};
 ghost use Rattle.mesh_graph.specs.Chains.{HaveNodes};
-ghost use Rattle.mesh_graph.specs.Arcs.{AreArcs, is_bare_at};
+ghost use Rattle.mesh_graph.specs.Adjacency.{IsAdjacency, is_bare_at};
 
 use crate::chains::{link, push_chain};
 use crate::sides::Side;
@@ -20,12 +20,12 @@ pub struct Span {
 
 /// The patches on one side of each node, seen as a list for each node.
 #[derive(Drop)]
-pub struct Arcs {
+pub struct Adjacency {
     patches: Vec<u32>,
     spans: Vec<Span>,
 }
 
-impl Model for Arcs {
+impl Model for Adjacency {
     ghost use Rattle.std.specs.Prelude.{ℕ, List};
     ghost use Rattle.mesh_graph.specs.Spans.{lists_in, AreSpans};
 
@@ -36,17 +36,17 @@ impl Model for Arcs {
     ghost invariant = { λ a. AreSpans a.patches.items a.spans.items };
 }
 
-impl Arcs {
+impl Adjacency {
     /// The patches on one side of each of so many nodes, ascending.
     pub fn of(
         alloc: Global,
         side: Side,
         nodes: usize,
         fields: &[PatchField],
-    ) -> Result<Arcs, NoMemory>
+    ) -> Result<Adjacency, NoMemory>
         requires ends { HaveNodes side nodes fields.now }
         requires count { length fields.now ≤ 65536 }
-        ensures { IfOk result (AreArcs side fields.now nodes) }
+        ensures { IfOk result (IsAdjacency side fields.now nodes) }
     {
         let chains = link(alloc, side, nodes, fields)?;
         let mut patches = Vec::new(alloc);
@@ -57,7 +57,7 @@ impl Arcs {
             let end = patches.len();
             spans.push(Span { start, end })?;
         }
-        Ok(Arcs { patches, spans })
+        Ok(Adjacency { patches, spans })
     }
 
     /// The patches of a node.

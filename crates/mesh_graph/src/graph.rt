@@ -7,10 +7,10 @@ ghost use Rattle.file_model.specs.Lists.{IndexLists};
 ghost use Rattle.file_model.specs.Rules.{is_node, is_field, is_node_count, is_patch_count};
 ghost use Rattle.mesh_model.specs.Graph.{is_root as is_root_of, is_sink as is_sink_of};
 ghost use Rattle.mesh_model.specs.Walks.{IsGrounded, IsLevel};
-ghost use Rattle.mesh_graph.specs.Arcs.{is_bare_at};
+ghost use Rattle.mesh_graph.specs.Adjacency.{is_bare_at};
 ghost use Rattle.mesh_graph.specs.Graphs.{index_of, IsGraphOf};
 
-use crate::arcs::Arcs;
+use crate::arcs::Adjacency;
 use crate::levels::levels_of;
 use crate::sides::Side;
 use crate::verdict::verdict_of;
@@ -24,8 +24,8 @@ use std::marker::Model;
 /// graph alone.
 #[derive(Drop)]
 pub struct MeshGraph {
-    incoming: Arcs,
-    outgoing: Arcs,
+    incoming: Adjacency,
+    outgoing: Adjacency,
     levels: Vec<Option<u32>>,
     verdict: Result<u32, DagFault>,
 }
@@ -48,8 +48,8 @@ impl MeshGraph {
         requires fields { IsTrue (list_all (is_field (length nodes.now)) fields.now) }
         ensures { IfOk result (λ graph. (version : ℕ) → IsGraphOf (index_of version nodes.now fields.now) graph) }
     {
-        let incoming = Arcs::of(alloc, Side::Incoming, nodes.len(), fields)?;
-        let outgoing = Arcs::of(alloc, Side::Outgoing, nodes.len(), fields)?;
+        let incoming = Adjacency::of(alloc, Side::Incoming, nodes.len(), fields)?;
+        let outgoing = Adjacency::of(alloc, Side::Outgoing, nodes.len(), fields)?;
         let levels = levels_of(alloc, &incoming, &outgoing, fields)?;
         let verdict = verdict_of(&incoming, &outgoing, &levels, nodes, fields);
         Ok(MeshGraph {

@@ -4,10 +4,10 @@ ghost use Rattle.std.specs.Prelude.{◌≡◌, ℕ, ◌+◌, ◌<◌, ◌≤◌,
 ghost use Rattle.std.specs.List.{Contains, range_with_len};
 ghost use Rattle.mesh_graph.specs.declared.sides.Side.TheVariants.{Incoming, Outgoing};
 ghost use Rattle.mesh_graph.specs.Chains.{HaveNodes};
-ghost use Rattle.mesh_graph.specs.Arcs.{AreArcs};
+ghost use Rattle.mesh_graph.specs.Adjacency.{IsAdjacency};
 ghost use Rattle.mesh_graph.specs.Levels.{AreLevels, IsOpen, HasOpenParent, HasTailLevel, IsLevelOver, IsNextLevel, AreAllLevels, IsLeastWithout, head_of};
 
-use crate::arcs::Arcs;
+use crate::arcs::Adjacency;
 use crate::blanks::blank_list;
 use file_model::PatchField;
 use grid_vertex::NoMemory;
@@ -61,13 +61,13 @@ fn level_over(fields: &[PatchField], levels: &[Option<u32>], patches: &[u32]) ->
 /// The level of a node that has none yet, where all its parents have one. `places` says for each node
 /// how many of its incoming patches are known to come from nodes with a level.
 fn next_level(
-    incoming: &Arcs,
+    incoming: &Adjacency,
     fields: &[PatchField],
     levels: &[Option<u32>],
     places: &mut [usize],
     node: u32,
 ) -> Option<u32>
-    requires incoming { AreArcs Incoming fields.now (length levels.now) incoming.now }
+    requires incoming { IsAdjacency Incoming fields.now (length levels.now) incoming.now }
     requires ends { HaveNodes Outgoing (length levels.now) fields.now }
     requires levels { AreLevels fields.now levels.now }
     requires count { length levels.now ≤ 65536 }
@@ -113,12 +113,12 @@ fn all_nodes(alloc: Global, nodes: u32) -> Result<Vec<u32>, NoMemory>
 /// got its level since it was looked at, and a patch is looked at twice at most.
 pub fn levels_of(
     alloc: Global,
-    incoming: &Arcs,
-    outgoing: &Arcs,
+    incoming: &Adjacency,
+    outgoing: &Adjacency,
     fields: &[PatchField],
 ) -> Result<Vec<Option<u32>>, NoMemory>
-    requires incoming { AreArcs Incoming fields.now (length incoming.now) incoming.now }
-    requires outgoing { AreArcs Outgoing fields.now (length incoming.now) outgoing.now }
+    requires incoming { IsAdjacency Incoming fields.now (length incoming.now) incoming.now }
+    requires outgoing { IsAdjacency Outgoing fields.now (length incoming.now) outgoing.now }
     requires tails { HaveNodes Outgoing (length incoming.now) fields.now }
     requires heads { HaveNodes Incoming (length incoming.now) fields.now }
     requires nodes { length incoming.now ≤ 65536 }

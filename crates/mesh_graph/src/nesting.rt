@@ -6,11 +6,11 @@ ghost use Rattle.grid_vertex.specs.Points.{IsNearGrid};
 ghost use Rattle.mesh_model.specs.Accepted.{nested_by, AllNested, IsLeastUnnested};
 ghost use Rattle.mesh_graph.specs.declared.sides.Side.TheVariants.{Incoming, Outgoing};
 ghost use Rattle.mesh_graph.specs.Chains.{HaveNodes};
-ghost use Rattle.mesh_graph.specs.Arcs.{AreArcs};
+ghost use Rattle.mesh_graph.specs.Adjacency.{IsAdjacency};
 ghost use Rattle.mesh_graph.specs.Graphs.{index_of};
 ghost use Rattle.mesh_graph.specs.Nesting.{rule_of, AreNearGrid};
 
-use crate::arcs::Arcs;
+use crate::arcs::Adjacency;
 use file_model::{Node, PatchField};
 use grid_vertex::contains;
 
@@ -34,12 +34,12 @@ fn keeps_rule(nesting: Nesting, tail: &Node, head: &Node) -> bool
 }
 
 /// Tells whether the patch keeps the rule, or leads to a sink.
-fn is_nested(nesting: Nesting, outgoing: &Arcs, nodes: &[Node], field: &PatchField) -> bool
+fn is_nested(nesting: Nesting, outgoing: &Adjacency, nodes: &[Node], field: &PatchField) -> bool
     requires tail { field.now.tail < length nodes.now }
     requires head { field.now.head < length nodes.now }
     requires near { AreNearGrid nodes.now }
     requires as_many { length outgoing.now ≡ length nodes.now }
-    ensures { (fields : List PatchField) → AreArcs Outgoing fields (length nodes.now) outgoing.now → result ≡ nested_by (rule_of nesting) fields (slice_get nodes.now field.now.tail) (slice_get nodes.now field.now.head) field.now.head }
+    ensures { (fields : List PatchField) → IsAdjacency Outgoing fields (length nodes.now) outgoing.now → result ≡ nested_by (rule_of nesting) fields (slice_get nodes.now field.now.tail) (slice_get nodes.now field.now.head) field.now.head }
 {
     if outgoing.is_bare(field.head) {
         return true;
@@ -54,11 +54,11 @@ fn is_nested(nesting: Nesting, outgoing: &Arcs, nodes: &[Node], field: &PatchFie
 /// The least patch that breaks the rule and doesn't lead to a sink.
 pub fn first_unnested(
     nesting: Nesting,
-    outgoing: &Arcs,
+    outgoing: &Adjacency,
     nodes: &[Node],
     fields: &[PatchField],
 ) -> Option<u32>
-    requires arcs { AreArcs Outgoing fields.now (length nodes.now) outgoing.now }
+    requires arcs { IsAdjacency Outgoing fields.now (length nodes.now) outgoing.now }
     requires tails { HaveNodes Outgoing (length nodes.now) fields.now }
     requires heads { HaveNodes Incoming (length nodes.now) fields.now }
     requires near { AreNearGrid nodes.now }

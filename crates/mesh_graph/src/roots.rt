@@ -2,13 +2,13 @@
 
 ghost use Rattle.std.specs.Prelude.{◌≡◌, ◌≤◌, length};
 ghost use Rattle.mesh_model.specs.Graph.{nodes_where, only_root};
-ghost use Rattle.mesh_graph.specs.Arcs.{is_bare_at};
+ghost use Rattle.mesh_graph.specs.Adjacency.{is_bare_at};
 
-use crate::arcs::Arcs;
+use crate::arcs::Adjacency;
 use mesh_model::DagFault;
 
 /// The one node without incoming patches, or the fault where there is none or are several.
-pub fn find_root(incoming: &Arcs) -> Result<u32, DagFault>
+pub fn find_root(incoming: &Adjacency) -> Result<u32, DagFault>
     requires { length incoming.now ≤ 65536 }
     ensures { result ≡ only_root (nodes_where (length incoming.now) (is_bare_at incoming.now)) }
 {

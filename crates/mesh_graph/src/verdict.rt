@@ -3,12 +3,12 @@
 ghost use Rattle.std.specs.Prelude.{◌≡◌, ℕ, ◌≤◌, length};
 ghost use Rattle.mesh_graph.specs.declared.sides.Side.TheVariants.{Incoming, Outgoing};
 ghost use Rattle.mesh_graph.specs.Chains.{HaveNodes};
-ghost use Rattle.mesh_graph.specs.Arcs.{AreArcs};
+ghost use Rattle.mesh_graph.specs.Adjacency.{IsAdjacency};
 ghost use Rattle.mesh_graph.specs.Levels.{AreAllLevels};
 ghost use Rattle.mesh_graph.specs.Graphs.{index_of, IsVerdict};
 ghost use Rattle.mesh_graph.specs.Nesting.{AreNearGrid};
 
-use crate::arcs::Arcs;
+use crate::arcs::Adjacency;
 use crate::levels::first_without;
 use crate::nesting::{Nesting, first_unnested};
 use crate::roots::find_root;
@@ -17,14 +17,14 @@ use mesh_model::DagFault;
 
 /// The root of a graph that is nested and has levels, or its first fault.
 pub fn verdict_of(
-    incoming: &Arcs,
-    outgoing: &Arcs,
+    incoming: &Adjacency,
+    outgoing: &Adjacency,
     levels: &[Option<u32>],
     nodes: &[Node],
     fields: &[PatchField],
 ) -> Result<u32, DagFault>
-    requires incoming { AreArcs Incoming fields.now (length nodes.now) incoming.now }
-    requires outgoing { AreArcs Outgoing fields.now (length nodes.now) outgoing.now }
+    requires incoming { IsAdjacency Incoming fields.now (length nodes.now) incoming.now }
+    requires outgoing { IsAdjacency Outgoing fields.now (length nodes.now) outgoing.now }
     requires levels { AreAllLevels fields.now (length nodes.now) levels.now }
     requires tails { HaveNodes Outgoing (length nodes.now) fields.now }
     requires heads { HaveNodes Incoming (length nodes.now) fields.now }

@@ -15,7 +15,8 @@ use Rattle.file_laws.specs.Numbers.{IsBytes}
 use Rattle.file_laws.specs.Bodies.{body_text-in, body_in-text}
 use Rattle.patch_body.specs.Faults.{fault_of}
 use Rattle.patch_body.specs.Places.{points_size, point_of_bytes, triangle_of_bytes, HavePoints, HasCorners}
-use Rattle.patch_body.specs.Seen.{SeenBody, IsCount, IsInGrid, IsKept, field_of, lists_of, lists_in, seen_body}
+use Rattle.file_model.specs.Lists.{SeenBody}
+use Rattle.patch_body.specs.Seen.{IsCount, IsInGrid, IsKept, field_of, lists_of, lists_in, seen_body}
 use Rattle.patch_body.proofs.Triangles.{AreBelow, is_triangle_at, triangle_same, corners_there}
 use Rattle.patch_body.proofs.Lists.{AreLists, are_lists, same_lists}
 

@@ -5,18 +5,11 @@ use Rattle.grid_vertex.specs.declared.triangles.Triangle.{Triangle}
 use Rattle.grid_vertex.specs.Points.{is_in_grid}
 use Rattle.file_model.specs.declared.faults.FileFault.{FileFault}
 use Rattle.file_model.specs.declared.fields.PatchField.{PatchField}
-use Rattle.file_model.specs.Lists.{BodyLists, corners_of}
+use Rattle.file_model.specs.Lists.{BodyLists, SeenBody, corners_of}
 use Rattle.file_model.specs.Spelling.{body_text}
 use Rattle.file_model.specs.Rules.{is_version, is_body}
 use Rattle.file_model.specs.Reading.{body_in}
 use Rattle.patch_body.specs.Faults.{fault_of}
-
--- a body: its patch, its version, and its points and corners with the bytes that spell them
-pub record SeenBody : Type 0 where
-  pub patch : ℕ
-  pub version : ℕ
-  pub lists : BodyLists
-  pub bytes : List ℕ
 
 -- from 1 on, and no more than two bytes count
 pub record IsCount (n : ℕ) : Type 0 where

@@ -19,7 +19,8 @@ pub struct Body {
 }
 
 impl Model for Body {
-    ghost use Rattle.patch_body.specs.Seen.{SeenBody, IsKept, seen_body};
+    ghost use Rattle.file_model.specs.Lists.{SeenBody};
+    ghost use Rattle.patch_body.specs.Seen.{IsKept, seen_body};
 
     ghost Value = { SeenBody };
 

@@ -10,7 +10,7 @@ use Rattle.file_model.specs.declared.fields.Node.{Node}
 use Rattle.file_model.specs.declared.fields.PatchField.{PatchField}
 use Rattle.file_model.specs.Lists.{IndexLists}
 use Rattle.file_model.specs.Spelling.{node_text, field_text, header_text, index_text, body_text}
-use Rattle.patch_body.specs.Seen.{SeenBody}
+use Rattle.file_model.specs.Lists.{SeenBody}
 use Rattle.view_outside.specs.Streams.{appended}
 use Rattle.patch_file.specs.Headers.{header_spelling}
 use Rattle.patch_file.specs.Written.{Wrote, WritesPart, WritesPart-more, WritesPart-after, appended-after}

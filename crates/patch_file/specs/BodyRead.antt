@@ -2,7 +2,7 @@
 use Rattle.std.specs.Prelude.{◌≡◌, ℕ, length, slice_get, IfSome, IsTrue}
 use Rattle.file_model.specs.Lists.{IndexLists, body_size}
 use Rattle.file_model.specs.Rules.{fits_field}
-use Rattle.patch_body.specs.Seen.{SeenBody}
+use Rattle.file_model.specs.Lists.{SeenBody}
 
 -- the body is this patch's, and has the version, the numbers and the size that the index gives
 pub record IsBodyOf (index : IndexLists) (patch : ℕ) (body : SeenBody) : Type 0 where

@@ -4,7 +4,7 @@ use Rattle.file_model.specs.declared.fields.Node.{Node}
 use Rattle.file_model.specs.declared.fields.PatchField.{PatchField}
 use Rattle.file_model.specs.Lists.{BodyLists, FileLists}
 use Rattle.file_model.specs.Spelling.{body_text}
-use Rattle.patch_body.specs.Seen.{SeenBody}
+use Rattle.file_model.specs.Lists.{SeenBody}
 
 -- no node, no patch and no body
 abbrev pub no_parts : ℕ → FileLists

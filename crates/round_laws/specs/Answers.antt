@@ -3,7 +3,8 @@ use Rattle.std.proofs.Common.{◌≡◌, ℕ, Bool, true, false, cond, List, [],
 use Rattle.std.specs.List.{AllByRecursion}
 use Rattle.std.proofs.lemmas.Bool.{cond_both, cond-true}
 use Rattle.file_model.specs.declared.fields.Try.{Try}
-use Rattle.round_model.specs.Tries.{is_odd, Verdict, Granted, Refused, OpenAt, Tried, with_try, tried_patches}
+use Rattle.file_model.specs.Tries.{is_odd}
+use Rattle.round_model.specs.Tries.{Verdict, Granted, Refused, OpenAt, Tried, with_try, tried_patches}
 use Rattle.round_model.specs.Rounds.{epochs_of, patches_of}
 
 -- all were answered that had to be

@@ -15,7 +15,7 @@ use Rattle.mesh_model.specs.Accepted.{is_inner, IsAccepted, triangles_out_of}
 use Rattle.mesh_model.specs.Meshes.{IsMesh}
 use Rattle.round_model.specs.Order.{Rules, node_order}
 use Rattle.round_model.specs.Tries.{Tried, Verdict, Granted, Refused, OpenAt, tried_patches}
-use Rattle.round_model.specs.Rounds.{Stand, has, with_member, frame_size, is_wanted, has_parents, is_within_limit, is_tried, after_verdict, after_tries, round_from, root_set, round_of}
+use Rattle.round_model.specs.Rounds.{RoundState, has, with_member, frame_size, is_wanted, has_parents, is_within_limit, is_tried, after_verdict, after_tries, round_from, root_set, round_of}
 use Rattle.frame_laws.specs.Each.{each_passes, each_at}
 use Rattle.frame_laws.specs.Roots.{only_root_from_roots}
 use Rattle.frame_laws.specs.Bases.{base_is_cut}
@@ -26,7 +26,7 @@ use Rattle.round_laws.specs.Members.{still_has, had_or_is, has_member, empty_has
 
 -- ---- what each join keeps, a round keeps
 
-set_after : (P : List Bool → Type 0) (set : List Bool) (tries : List Try) (v : ℕ) (tried : Tried) (rest : List Bool → List Try → List ℕ → Stand) (verdict : Verdict) → P set → P (with_member set v) → ((s : List Bool) (t : List Try) (e : List ℕ) → P s → P (rest s t e).set) → P (after_verdict set tries v tried rest verdict).set
+set_after : (P : List Bool → Type 0) (set : List Bool) (tries : List Try) (v : ℕ) (tried : Tried) (rest : List Bool → List Try → List ℕ → RoundState) (verdict : Verdict) → P set → P (with_member set v) → ((s : List Bool) (t : List Try) (e : List ℕ) → P s → P (rest s t e).set) → P (after_verdict set tries v tried rest verdict).set
 set_after P set tries v tried rest Granted here joined go = go (with_member set v) (tries ++ tried.tries) tried.unused joined
 set_after P set tries v tried rest Refused here joined go = go set (tries ++ tried.tries) tried.unused here
 set_after P set tries v tried rest (OpenAt p) here joined go = here
@@ -36,7 +36,7 @@ unfolding round_from
 from_keeps rules P step [] set tries epochs inner h = h
 from_keeps rules P step (v ∷ vs) set tries epochs inner h =
     let tried = tried_patches (outgoing rules.mesh.index.fields v) epochs in
-    cond_both (is_tried rules set v) (after_tries set tries v tried (λ s t e. round_from rules vs s t e)) (round_from rules vs set tries epochs) (λ (stand : Stand). P stand.set)
+    cond_both (is_tried rules set v) (after_tries set tries v tried (λ s t e. round_from rules vs s t e)) (round_from rules vs set tries epochs) (λ (stand : RoundState). P stand.set)
     (λ is. set_after P set tries v tried (λ s t e. round_from rules vs s t e) tried.verdict h (step set v inner.0 is h) (λ s t e kept. from_keeps rules P step vs s t e inner.1 kept))
     (λ passed. from_keeps rules P step vs set tries epochs inner.1 h)
 

@@ -7,13 +7,14 @@ use Rattle.std.proofs.lemmas.List.{map-append}
 use Rattle.file_model.specs.declared.fields.Try.{Try}
 use Rattle.mesh_model.specs.Graph.{outgoing}
 use Rattle.round_model.specs.Order.{Rules, node_order}
-use Rattle.round_model.specs.Tries.{is_odd, Verdict, Granted, Refused, OpenAt, Tried, tried_patches}
-use Rattle.round_model.specs.Rounds.{Hand, Stand, with_member, is_tried, after_verdict, after_tries, round_from, root_set, round_of, epochs_of, patches_of}
+use Rattle.file_model.specs.Tries.{is_odd}
+use Rattle.round_model.specs.Tries.{Verdict, Granted, Refused, OpenAt, Tried, tried_patches}
+use Rattle.round_model.specs.Rounds.{NodeInProgress, RoundState, with_member, is_tried, after_verdict, after_tries, round_from, root_set, round_of, epochs_of, patches_of}
 use Rattle.round_laws.specs.Answers.{IsAnswered, with_unused, with_granted, IsOpenAt, tried_epochs, tried_more, tried_open}
 
 -- what is left of a round from a node on, as a function of the set, the tries so far and the epochs
 abbrev pub Rest : Type 0
-Rest = List Bool → List Try → List ℕ → Stand
+Rest = List Bool → List Try → List ℕ → RoundState
 
 -- ---- the epochs are those of the tries, and those that are left
 
@@ -33,7 +34,7 @@ from_epochs rules (v ∷ vs) set begun epochs =
     let ps = outgoing rules.mesh.index.fields v in
     let tried = tried_patches ps epochs in
     let rest : Rest = λ s t e. round_from rules vs s t e in
-    cond_both (is_tried rules set v) (after_tries set begun v tried rest) (round_from rules vs set begun epochs) (λ (stand : Stand). epochs_of stand.tries ++ stand.unused ≡ epochs_of begun ++ epochs)
+    cond_both (is_tried rules set v) (after_tries set begun v tried rest) (round_from rules vs set begun epochs) (λ (stand : RoundState). epochs_of stand.tries ++ stand.unused ≡ epochs_of begun ++ epochs)
     (λ is. verdict_epochs set begun v epochs tried rest tried.verdict refl (λ answered. tried_epochs ps epochs)
     (λ p stands. ap (λ (xs : List ℕ). epochs_of tried.tries ++ xs) (sym (tried_open ps epochs p stands).used) ∙ tried_epochs ps epochs)
     (λ s t e. from_epochs rules vs s t e))
@@ -46,7 +47,7 @@ round_epochs rules epochs = from_epochs rules (node_order rules) (root_set rules
 -- ---- more epochs for a round that is through
 
 -- with further epochs that nothing used
-abbrev pub with_spare : List ℕ → Stand → Stand
+abbrev pub with_spare : List ℕ → RoundState → RoundState
 with_spare epochs stand = record { set = stand.set; tries = stand.tries; at = stand.at; unused = stand.unused ++ epochs }
 
 answered_from_through : (set : List Bool) (begun : List Try) (v : ℕ) (tried : Tried) (rest : Rest) (verdict : Verdict) → (after_verdict set begun v tried rest verdict).at ≡ None → IsAnswered verdict
@@ -80,7 +81,7 @@ from_through rules [] set begun epochs more h = refl
 from_through rules (v ∷ vs) set begun epochs more h =
     let tried = tried_patches (outgoing rules.mesh.index.fields v) epochs in
     let rest : Rest = λ s t e. round_from rules vs s t e in
-    cond_both (is_tried rules set v) (after_tries set begun v tried rest) (round_from rules vs set begun epochs) (λ (stand : Stand). stand.at ≡ None → round_from rules (v ∷ vs) set begun (epochs ++ more) ≡ with_spare more stand)
+    cond_both (is_tried rules set v) (after_tries set begun v tried rest) (round_from rules vs set begun epochs) (λ (stand : RoundState). stand.at ≡ None → round_from rules (v ∷ vs) set begun (epochs ++ more) ≡ with_spare more stand)
     (λ is through. on_answered rules v vs set begun epochs more is (answered_from_through set begun v tried rest tried.verdict through)
     ∙ verdict_more set begun v tried more rest tried.verdict (λ s t e. from_through rules vs s t e more) through)
     (λ passed through. on_passed rules v vs set begun (epochs ++ more) passed ∙ from_through rules vs set begun epochs more through) h
@@ -93,7 +94,7 @@ round_through rules epochs more h = from_through rules (node_order rules) (root_
 
 -- the round stands at a patch of the node in hand, which is tried: nodes and patches that follow are what
 -- is left, no epoch is left over, and with more epochs the round goes on at that patch
-pub record StandsAt (rules : Rules) (vs : List ℕ) (start : List Bool) (begun : List Try) (epochs : List ℕ) (stand : Stand) (hand : Hand) : Type 0 where
+pub record StandsAt (rules : Rules) (vs : List ℕ) (start : List Bool) (begun : List Try) (epochs : List ℕ) (stand : RoundState) (hand : NodeInProgress) : Type 0 where
   pub gone : List ℕ
   pub rest : List ℕ
   pub nodes : vs ≡ gone ++ hand.node ∷ rest
@@ -107,7 +108,7 @@ pub record StandsAt (rules : Rules) (vs : List ℕ) (start : List Bool) (begun :
   pub on : (more : List ℕ) → round_from rules vs start begun (epochs ++ more) ≡ after_tries stand.set earlier hand.node (with_granted hand.granted (tried_patches (hand.patch ∷ later) more)) (λ s t e. round_from rules rest s t e)
 
 -- past a first node the round is the one from the next node on
-past_first : (rules : Rules) (v : ℕ) (vs : List ℕ) (set start : List Bool) (begun tries : List Try) (epochs left : List ℕ) (stand : Stand) (hand : Hand) → ((more : List ℕ) → round_from rules (v ∷ vs) set begun (epochs ++ more) ≡ round_from rules vs start tries (left ++ more)) → StandsAt rules vs start tries left stand hand → StandsAt rules (v ∷ vs) set begun epochs stand hand
+past_first : (rules : Rules) (v : ℕ) (vs : List ℕ) (set start : List Bool) (begun tries : List Try) (epochs left : List ℕ) (stand : RoundState) (hand : NodeInProgress) → ((more : List ℕ) → round_from rules (v ∷ vs) set begun (epochs ++ more) ≡ round_from rules vs start tries (left ++ more)) → StandsAt rules vs start tries left stand hand → StandsAt rules (v ∷ vs) set begun epochs stand hand
 past_first rules v vs set start begun tries epochs left stand hand same at = record {
   gone = v ∷ at.gone;
   rest = at.rest;
@@ -122,11 +123,11 @@ past_first rules v vs set start begun tries epochs left stand hand same at = rec
   on = λ more. same more ∙ at.on more;
 }
 
-pub hand_is : (hand other : Hand) → Some hand ≡ Some other → hand ≡ other
+pub hand_is : (hand other : NodeInProgress) → Some hand ≡ Some other → hand ≡ other
 hand_is hand other e = cc
 
 -- the verdict on the first node says how the round goes on
-verdict_at : (rules : Rules) (v : ℕ) (vs : List ℕ) (set : List Bool) (begun : List Try) (epochs : List ℕ) (tried : Tried) (verdict : Verdict) (hand : Hand)
+verdict_at : (rules : Rules) (v : ℕ) (vs : List ℕ) (set : List Bool) (begun : List Try) (epochs : List ℕ) (tried : Tried) (verdict : Verdict) (hand : NodeInProgress)
     → is_tried rules set v ≡ true
     → tried ≡ tried_patches (outgoing rules.mesh.index.fields v) epochs
     → tried.verdict ≡ verdict
@@ -166,16 +167,16 @@ verdict_at rules v vs set begun epochs tried (OpenAt p) hand is same verdict go 
       on = λ more. on_tried rules v vs set begun (epochs ++ more) is ∙ ap (λ (t : Tried). after_tries set begun v t (λ s t e. round_from rules vs s t e)) (at.on more);
     }
 
-from_stands : (rules : Rules) (vs : List ℕ) (set : List Bool) (begun : List Try) (epochs : List ℕ) (hand : Hand) → (round_from rules vs set begun epochs).at ≡ Some hand → StandsAt rules vs set begun epochs (round_from rules vs set begun epochs) hand
+from_stands : (rules : Rules) (vs : List ℕ) (set : List Bool) (begun : List Try) (epochs : List ℕ) (hand : NodeInProgress) → (round_from rules vs set begun epochs).at ≡ Some hand → StandsAt rules vs set begun epochs (round_from rules vs set begun epochs) hand
 unfolding round_from
 from_stands rules [] set begun epochs hand h = absurd (cc)
 from_stands rules (v ∷ vs) set begun epochs hand h =
     let tried = tried_patches (outgoing rules.mesh.index.fields v) epochs in
     let rest : Rest = λ s t e. round_from rules vs s t e in
-    cond_both (is_tried rules set v) (after_tries set begun v tried rest) (round_from rules vs set begun epochs) (λ (stand : Stand). stand.at ≡ Some hand → StandsAt rules (v ∷ vs) set begun epochs stand hand)
+    cond_both (is_tried rules set v) (after_tries set begun v tried rest) (round_from rules vs set begun epochs) (λ (stand : RoundState). stand.at ≡ Some hand → StandsAt rules (v ∷ vs) set begun epochs stand hand)
     (λ is at. verdict_at rules v vs set begun epochs tried tried.verdict hand is refl refl (λ s t e. from_stands rules vs s t e hand) at)
     (λ passed at. past_first rules v vs set set begun begun epochs epochs (round_from rules vs set begun epochs) hand (λ more. on_passed rules v vs set begun (epochs ++ more) passed) (from_stands rules vs set begun epochs hand at)) h
 
-pub round_stands : (rules : Rules) (epochs : List ℕ) (hand : Hand) → (round_of rules epochs).at ≡ Some hand → StandsAt rules (node_order rules) (root_set rules) [] epochs (round_of rules epochs) hand
+pub round_stands : (rules : Rules) (epochs : List ℕ) (hand : NodeInProgress) → (round_of rules epochs).at ≡ Some hand → StandsAt rules (node_order rules) (root_set rules) [] epochs (round_of rules epochs) hand
 unfolding round_of
 round_stands rules epochs hand h = from_stands rules (node_order rules) (root_set rules) [] epochs hand h

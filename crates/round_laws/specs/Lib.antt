@@ -9,3 +9,4 @@ pub mod Epochs
 pub mod Steps
 pub mod Parents
 pub mod Passing
+pub mod Among

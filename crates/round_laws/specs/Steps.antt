@@ -3,8 +3,9 @@ use Rattle.std.proofs.Common.{◌≡◌, ℕ, Bool, true, false, List, [], ◌�
 use Rattle.std.proofs.lemmas.Bool.{cond-true, cond-false}
 use Rattle.file_model.specs.declared.fields.Try.{Try}
 use Rattle.round_model.specs.Order.{Rules}
-use Rattle.round_model.specs.Tries.{is_odd, Granted, OpenAt, Tried, with_try, tried_patches}
-use Rattle.round_model.specs.Rounds.{Hand, Stand, with_member, after_tries, round_from}
+use Rattle.file_model.specs.Tries.{is_odd}
+use Rattle.round_model.specs.Tries.{Granted, OpenAt, Tried, with_try, tried_patches}
+use Rattle.round_model.specs.Rounds.{NodeInProgress, RoundState, with_member, after_tries, round_from}
 use Rattle.round_laws.specs.Answers.{with_granted, try_of, refused_at}
 use Rattle.round_laws.specs.Epochs.{StandsAt}
 
@@ -24,7 +25,7 @@ next_granted : (p e q : ℕ) (later rest : List ℕ) → is_odd e ≡ true → l
 unfolding tried_patches
 next_granted p e q later rest odd more = granted_here p e later [] odd ∙ ap (λ (ps : List ℕ). with_try (try_of p e) (tried_patches ps [])) more
 
-module _ (rules : Rules) (vs : List ℕ) (start : List Bool) (begun : List Try) (epochs : List ℕ) (stand : Stand) (hand : Hand) (at : StandsAt rules vs start begun epochs stand hand) where
+module _ (rules : Rules) (vs : List ℕ) (start : List Bool) (begun : List Try) (epochs : List ℕ) (stand : RoundState) (hand : NodeInProgress) (at : StandsAt rules vs start begun epochs stand hand) where
   -- the tries with one more
   abbrev with_answer : ℕ → List Try
   with_answer epoch = stand.tries ++ try_of hand.patch epoch ∷ []

@@ -20,8 +20,9 @@ ghost use Rattle.mesh_model.specs.Accepted.{is_inner, has_no_more_error, has_bal
 ghost use Rattle.mesh_model.specs.Meshes.{MeshLists, IsMesh};
 ghost use Rattle.round_model.specs.Scores.{score_of};
 ghost use Rattle.round_model.specs.Order.{Rules, comes_before, node_order};
-ghost use Rattle.round_model.specs.Tries.{is_odd, OpenAt, tried_patches};
-ghost use Rattle.round_model.specs.Rounds.{Hand, Stand, epochs_of, has, with_member, frame_size, is_tried, round_from, root_set, round_of};
+ghost use Rattle.file_model.specs.Tries.{is_odd};
+ghost use Rattle.round_model.specs.Tries.{OpenAt, tried_patches};
+ghost use Rattle.round_model.specs.Rounds.{NodeInProgress, RoundState, epochs_of, has, with_member, frame_size, is_tried, round_from, root_set, round_of};
 ghost use Rattle.frame_laws.specs.Frames.{frame_of_set};
 ghost use Rattle.round_laws.specs.Ascending.{Ascends, inner_nodes, IsInnerNode};
 ghost use Rattle.round_laws.specs.Answers.{IsAnswered, IsOpenAt, with_unused, try_of};
@@ -79,15 +80,15 @@ pub fn tries_use_epochs_in_order()
 pub fn a_round_goes_on_where_it_stood()
     ensures epochs { (rules : Rules) (epochs : List ℕ) → epochs_of (round_of rules epochs).tries ++ (round_of rules epochs).unused ≡ epochs }
     ensures through { (rules : Rules) (epochs more : List ℕ) → (round_of rules epochs).at ≡ None → round_of rules (epochs ++ more) ≡ with_spare more (round_of rules epochs) }
-    ensures stands { (rules : Rules) (epochs : List ℕ) (hand : Hand) → (round_of rules epochs).at ≡ Some hand → StandsAt rules (node_order rules) (root_set rules) [] epochs (round_of rules epochs) hand }
+    ensures stands { (rules : Rules) (epochs : List ℕ) (hand : NodeInProgress) → (round_of rules epochs).at ≡ Some hand → StandsAt rules (node_order rules) (root_set rules) [] epochs (round_of rules epochs) hand }
 {}
 
 /// One answer moves a round on that stands at a patch: an even epoch drops the node in hand, and an odd one
 /// leads to the node's next patch, or puts the node into the set after its last.
 pub fn an_answer_moves_a_round_on()
-    ensures refused { (rules : Rules) (vs : List ℕ) (start : List Bool) (begun : List Try) (epochs : List ℕ) (stand : Stand) (hand : Hand) (at : StandsAt rules vs start begun epochs stand hand) (epoch : ℕ) (more : List ℕ) → is_odd epoch ≡ false → round_from rules vs start begun (epochs ++ epoch ∷ more) ≡ round_from rules at.rest stand.set (stand.tries ++ try_of hand.patch epoch ∷ []) more }
-    ensures granted { (rules : Rules) (vs : List ℕ) (start : List Bool) (begun : List Try) (epochs : List ℕ) (stand : Stand) (hand : Hand) (at : StandsAt rules vs start begun epochs stand hand) (epoch next : ℕ) (later : List ℕ) → is_odd epoch ≡ true → at.later ≡ next ∷ later → round_from rules vs start begun (epochs ++ epoch ∷ []) ≡ record { set = stand.set; tries = stand.tries ++ try_of hand.patch epoch ∷ []; at = Some (record { node = hand.node; granted = hand.granted ++ try_of hand.patch epoch ∷ []; patch = next }); unused = [] } }
-    ensures granted_last { (rules : Rules) (vs : List ℕ) (start : List Bool) (begun : List Try) (epochs : List ℕ) (stand : Stand) (hand : Hand) (at : StandsAt rules vs start begun epochs stand hand) (epoch : ℕ) (more : List ℕ) → is_odd epoch ≡ true → at.later ≡ [] → round_from rules vs start begun (epochs ++ epoch ∷ more) ≡ round_from rules at.rest (with_member stand.set hand.node) (stand.tries ++ try_of hand.patch epoch ∷ []) more }
+    ensures refused { (rules : Rules) (vs : List ℕ) (start : List Bool) (begun : List Try) (epochs : List ℕ) (stand : RoundState) (hand : NodeInProgress) (at : StandsAt rules vs start begun epochs stand hand) (epoch : ℕ) (more : List ℕ) → is_odd epoch ≡ false → round_from rules vs start begun (epochs ++ epoch ∷ more) ≡ round_from rules at.rest stand.set (stand.tries ++ try_of hand.patch epoch ∷ []) more }
+    ensures granted { (rules : Rules) (vs : List ℕ) (start : List Bool) (begun : List Try) (epochs : List ℕ) (stand : RoundState) (hand : NodeInProgress) (at : StandsAt rules vs start begun epochs stand hand) (epoch next : ℕ) (later : List ℕ) → is_odd epoch ≡ true → at.later ≡ next ∷ later → round_from rules vs start begun (epochs ++ epoch ∷ []) ≡ record { set = stand.set; tries = stand.tries ++ try_of hand.patch epoch ∷ []; at = Some (record { node = hand.node; granted = hand.granted ++ try_of hand.patch epoch ∷ []; patch = next }); unused = [] } }
+    ensures granted_last { (rules : Rules) (vs : List ℕ) (start : List Bool) (begun : List Try) (epochs : List ℕ) (stand : RoundState) (hand : NodeInProgress) (at : StandsAt rules vs start begun epochs stand hand) (epoch : ℕ) (more : List ℕ) → is_odd epoch ≡ true → at.later ≡ [] → round_from rules vs start begun (epochs ++ epoch ∷ more) ≡ round_from rules at.rest (with_member stand.set hand.node) (stand.tries ++ try_of hand.patch epoch ∷ []) more }
 {}
 
 /// Levels rise along arcs, and where scores don't rise along them a node's parents are tried before it.

@@ -38,30 +38,30 @@ is_tried rules set v = is_wanted rules v && has_parents rules.mesh.index.fields 
 
 -- the node whose patches are being tried, the tries of its patches that were granted so far, and the
 -- patch that is to be tried
-pub record Hand : Type 0 where
+pub record NodeInProgress : Type 0 where
   pub node : ℕ
   pub granted : List Try
   pub patch : ℕ
 
 -- where a round stands once its epochs are used up, or it is through
-pub record Stand : Type 0 where
+pub record RoundState : Type 0 where
   pub set : List Bool
   pub tries : List Try
-  pub at : Option Hand
+  pub at : Option NodeInProgress
   pub unused : List ℕ
 
 -- what follows the tries of a node's patches: the rest of the round, with the node in the set where all
 -- were granted, or the round stands there
-abbrev pub after_verdict : List Bool → List Try → ℕ → Tried → (List Bool → List Try → List ℕ → Stand) → Verdict → Stand
+abbrev pub after_verdict : List Bool → List Try → ℕ → Tried → (List Bool → List Try → List ℕ → RoundState) → Verdict → RoundState
 after_verdict set tries v tried rest Granted = rest (with_member set v) (tries ++ tried.tries) tried.unused
 after_verdict set tries v tried rest Refused = rest set (tries ++ tried.tries) tried.unused
 after_verdict set tries v tried rest (OpenAt p) = record { set = set; tries = tries ++ tried.tries; at = Some (record { node = v; granted = tried.tries; patch = p }); unused = [] }
 
-abbrev pub after_tries : List Bool → List Try → ℕ → Tried → (List Bool → List Try → List ℕ → Stand) → Stand
+abbrev pub after_tries : List Bool → List Try → ℕ → Tried → (List Bool → List Try → List ℕ → RoundState) → RoundState
 after_tries set tries v tried rest = after_verdict set tries v tried rest tried.verdict
 
 -- the round goes on from a set and the tries so far through these nodes, answered by the epochs
-unfoldable pub round_from : Rules → List ℕ → List Bool → List Try → List ℕ → Stand
+unfoldable pub round_from : Rules → List ℕ → List Bool → List Try → List ℕ → RoundState
 round_from rules [] set tries epochs = record { set = set; tries = tries; at = None; unused = epochs }
 round_from rules (v ∷ vs) set tries epochs =
     if is_tried rules set v then after_tries set tries v (tried_patches (outgoing rules.mesh.index.fields v) epochs) (λ s t e. round_from rules vs s t e)
@@ -72,11 +72,11 @@ unfoldable pub root_set : Rules → List Bool
 root_set rules = with_member (replicate (length rules.mesh.index.nodes) false) rules.mesh.root
 
 -- the round whose tries these epochs answer
-unfoldable pub round_of : Rules → List ℕ → Stand
+unfoldable pub round_of : Rules → List ℕ → RoundState
 round_of rules epochs = round_from rules (node_order rules) (root_set rules) [] epochs
 
 -- the round is through, and all epochs were used
-pub record IsWhole (stand : Stand) : Type 0 where
+pub record IsWhole (stand : RoundState) : Type 0 where
   pub through : stand.at ≡ None
   pub used : stand.unused ≡ []
 

@@ -1,10 +1,7 @@
 -- Trying the patches of one node.
-use Rattle.std.specs.Prelude.{ℕ, ◌%◌, ◌==◌, Bool, List, [], ◌∷◌, if◌then◌else◌}
+use Rattle.std.specs.Prelude.{ℕ, List, [], ◌∷◌, if◌then◌else◌}
 use Rattle.file_model.specs.declared.fields.Try.{Try}
-
--- a try is granted by an odd epoch
-abbrev pub is_odd : ℕ → Bool
-is_odd epoch = epoch % 2 == 1
+use Rattle.file_model.specs.Tries.{is_odd}
 
 -- what came of it: all granted, one refused, or no answer yet for a patch
 pub data Verdict : Type 0 where

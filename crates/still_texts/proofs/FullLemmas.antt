@@ -13,35 +13,35 @@ use Rattle.mesh_model.specs.Accepted.{IsAccepted, triangles_out_of}
 use Rattle.mesh_model.specs.Meshes.{MeshLists}
 use Rattle.frame_laws.specs.Frames.{frame_of_set}
 use Rattle.text_model.specs.FrameText.{Frame, IsFrameText}
-use Rattle.patch_body.specs.Seen.{SeenBody}
+use Rattle.file_model.specs.Lists.{SeenBody}
 use Rattle.frame_writer.specs.Frames.{frame_of, triangles_in}
 use Rattle.round_model.specs.declared.asks.Ask.TheVariants.{Lock, Done}
 use Rattle.round_model.specs.Order.{Rules}
-use Rattle.round_model.specs.Rounds.{Hand, has, round_of, IsWhole, epochs_of}
-use Rattle.round_model.specs.Refiners.{Refining, asked, next_ask, next_try, stand_of, cut_of, cut_patches}
+use Rattle.round_model.specs.Rounds.{NodeInProgress, has, round_of, IsWhole, epochs_of}
+use Rattle.round_model.specs.Refiners.{Refining, pending_ask, next_ask, next_try, round_state, cut_of, cut_patches}
 use Rattle.body_loads.specs.Loads.{AreBodiesAt}
 use Rattle.body_loads.specs.PatchLists.{chosen_below}
 use Rattle.body_loads.specs.LoadLaws.{loads_triangles}
-use Rattle.dag_check.specs.MeshView.{MeshSeen}
-use Rattle.dag_check.specs.Checks.{IsMeshOf}
-use Rattle.error_metric.specs.Views.{ViewSeen}
-use Rattle.error_metric.specs.Wants.{rules_of}
-use Rattle.still_texts.specs.Shown.{ShowsCut}
-use Rattle.still_texts.specs.Full.{IsGranted, IsFullText, view_rules}
+use Rattle.accepted_mesh.specs.MeshView.{MeshSeen, IsMeshOf}
+use Rattle.round_model.specs.Views.{ViewSeen}
+use Rattle.round_model.specs.Views.{rules_of}
+use Rattle.text_model.specs.ShownCuts.{ShowsCut}
+use Rattle.round_model.specs.Views.{view_rules}
+use Rattle.still_texts.specs.Full.{IsGranted, IsFullText}
 use Rattle.still_texts.proofs.ShownLemmas.{triangles_in-lists}
 
 -- ---- the round is done
 
-no_lock_at : (at : Option Hand) → ((patch : ℕ) → next_try at ≡ Lock patch → ⊥) → next_try at ≡ Done
+no_lock_at : (at : Option NodeInProgress) → ((patch : ℕ) → next_try at ≡ Lock patch → ⊥) → next_try at ≡ Done
 no_lock_at None never = refl
 no_lock_at (Some hand) never = absurd (never hand.patch refl)
 
 -- where nothing is owed and no lock is asked for, the round is done
-pub done_from : (r : Refining) → r.owed ≡ [] → ((patch : ℕ) → asked r ≡ Lock patch → ⊥) → asked r ≡ Done
-unfolding asked
+pub done_from : (r : Refining) → r.owed ≡ [] → ((patch : ℕ) → pending_ask r ≡ Lock patch → ⊥) → pending_ask r ≡ Done
+unfolding pending_ask
 done_from r none never =
-    let same : next_ask r.owed (stand_of r).at ≡ next_try (stand_of r).at = ap (λ (owed : List ℕ). next_ask owed (stand_of r).at) none in
-    same ∙ no_lock_at (stand_of r).at (λ patch is. never patch (same ∙ is))
+    let same : next_ask r.owed (round_state r).at ≡ next_try (round_state r).at = ap (λ (owed : List ℕ). next_ask owed (round_state r).at) none in
+    same ∙ no_lock_at (round_state r).at (λ patch is. never patch (same ∙ is))
 
 -- the epochs of answers that are all 1 are all 1
 granted_epochs : (tries : List Try) → AllByRecursion (λ (answer : Try). answer.epoch ≡ 1) tries → AllByRecursion (λ (epoch : ℕ). epoch ≡ 1) (epochs_of tries)
@@ -57,21 +57,21 @@ granted_more (t ∷ ts) patch (first, others) = (first, granted_more ts patch ot
 
 -- what is known of a round that is done and in which every try was granted
 pub record IsThrough (r : Refining) : Type 0 where
-  pub whole : IsWhole (stand_of r)
+  pub whole : IsWhole (round_state r)
   pub granted : AllByRecursion (λ (answer : Try). answer.epoch ≡ 1) r.tries
-  pub answers : r.tries ≡ (stand_of r).tries
-  pub cut : IsCut r.rules.mesh.index.fields r.rules.mesh.root (has (stand_of r).set)
-  pub boundary : (file : FileLists) → IsAccepted file r.rules.mesh.root → file.index ≡ r.rules.mesh.index → HaveOneNet (frame_of_set file (has (stand_of r).set)) (triangles_out_of file r.rules.mesh.root)
+  pub answers : r.tries ≡ (round_state r).tries
+  pub cut : IsCut r.rules.mesh.index.fields r.rules.mesh.root (has (round_state r).set)
+  pub boundary : (file : FileLists) → IsAccepted file r.rules.mesh.root → file.index ≡ r.rules.mesh.index → HaveOneNet (frame_of_set file (has (round_state r).set)) (triangles_out_of file r.rules.mesh.root)
 
 -- its frame, of the bodies loaded for it
 abbrev pub round_frame : Refining → List SeenBody → Frame
 round_frame r bodies = frame_of 0 1 (cut_of r) r.tries (cut_patches r) bodies
 
 round_shows : (bytes : List ℕ) (file : FileLists) (mesh : MeshSeen) (r : Refining) (bodies : List SeenBody) → file_in bytes ≡ Ok file → IsMeshOf file mesh → r.rules.mesh ≡ mesh.lists → IsThrough r → AreBodiesAt file.index bytes (cut_patches r) bodies
-    → ShowsCut file mesh.lists.root (has (stand_of r).set) (round_frame r bodies)
+    → ShowsCut file mesh.lists.root (has (round_state r).set) (round_frame r bodies)
 unfolding cut_of cut_patches
 round_shows bytes file mesh r bodies is of same through are =
-    let set = has (stand_of r).set in
+    let set = has (round_state r).set in
     let index : r.rules.mesh.index ≡ file.index = ap (λ (m : MeshLists). m.index) same ∙ sym of.index in
     let root : r.rules.mesh.root ≡ mesh.lists.root = ap (λ (m : MeshLists). m.root) same in
     let patches : cut_patches r ≡ frame_patches set file.index.fields = ap (λ (i : IndexLists). frame_patches set i.fields) index in
@@ -117,5 +117,5 @@ ArePatchesOf index patches = (k d : ℕ) → k < length patches → slice_index_
 pub round_patches : (view : ViewSeen) (mesh : MeshSeen) (r : Refining) (patches : List ℕ) → r.rules ≡ view_rules view mesh.lists → patches ≡ cut_patches r → (k d : ℕ) → k < length patches → slice_index_or patches k d < length mesh.lists.index.fields
 unfolding cut_patches rules_of
 round_patches view mesh r patches rules are =
-    let below : ArePatchesOf r.rules.mesh.index (cut_patches r) = chosen_below (leads_out (has (stand_of r).set)) r.rules.mesh.index.fields in
+    let below : ArePatchesOf r.rules.mesh.index (cut_patches r) = chosen_below (leads_out (has (round_state r).set)) r.rules.mesh.index.fields in
     subst (ArePatchesOf mesh.lists.index) (sym are) (subst (λ (index : IndexLists). ArePatchesOf index (cut_patches r)) (ap (λ (rs : Rules). rs.mesh.index) rules) below)

@@ -15,13 +15,13 @@ use Rattle.frame_laws.specs.Bases.{base_is_cut, base_patches, base_triangles}
 use Rattle.frame_laws.specs.Roots.{only_root_from_roots}
 use Rattle.text_model.specs.Lines.{Adds}
 use Rattle.text_model.specs.FrameText.{Frame, IsFrameText}
-use Rattle.patch_body.specs.Seen.{SeenBody}
+use Rattle.file_model.specs.Lists.{SeenBody}
 use Rattle.frame_writer.specs.Frames.{AddsFrame, frame_of, triangles_in}
 use Rattle.body_loads.specs.Loads.{AreBodiesAt, lists_of}
 use Rattle.body_loads.specs.LoadLaws.{loads_triangles}
-use Rattle.dag_check.specs.MeshView.{MeshSeen}
-use Rattle.dag_check.specs.Checks.{IsMeshOf}
-use Rattle.still_texts.specs.Shown.{ShowsCut, IsBaseText}
+use Rattle.accepted_mesh.specs.MeshView.{MeshSeen, IsMeshOf}
+use Rattle.text_model.specs.ShownCuts.{ShowsCut}
+use Rattle.still_texts.specs.Shown.{IsBaseText}
 
 -- bodies' triangles are their lists'
 pub triangles_in-lists : (bodies : List SeenBody) → triangles_in bodies ≡ flat_map triangles_of (lists_of bodies)

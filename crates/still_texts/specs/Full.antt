@@ -1,19 +1,14 @@
 -- The frame of a round in which every try is granted.
-use Rattle.std.specs.Prelude.{◌≡◌, ℕ, List, map}
+use Rattle.std.specs.Prelude.{◌≡◌, ℕ, List}
 use Rattle.std.specs.List.{AllByRecursion}
 use Rattle.file_model.specs.Lists.{FileLists}
 use Rattle.mesh_model.specs.Meshes.{MeshLists, IsMesh}
 use Rattle.text_model.specs.FrameText.{Frame, IsFrameText}
-use Rattle.round_model.specs.Scores.{score_of}
 use Rattle.round_model.specs.Order.{Rules}
 use Rattle.round_model.specs.Rounds.{has, round_of, IsWhole}
-use Rattle.error_metric.specs.Views.{ViewSeen}
-use Rattle.error_metric.specs.Wants.{rules_of}
-use Rattle.still_texts.specs.Shown.{ShowsCut, IsStill}
-
--- what a view wants of a mesh
-abbrev pub view_rules : ViewSeen → MeshLists → Rules
-view_rules view mesh = rules_of mesh (map (score_of view.eye view.focal) mesh.index.nodes) view.threshold view.limit
+use Rattle.round_model.specs.Views.{ViewSeen, view_rules}
+use Rattle.text_model.specs.ShownCuts.{ShowsCut}
+use Rattle.still_texts.specs.Shown.{IsStill}
 
 -- the round is whole, and each of its tries was answered by epoch 1
 pub record IsGranted (rules : Rules) (epochs : List ℕ) : Type 0 where

@@ -5,13 +5,13 @@ ghost use Rattle.file_model.specs.Lists.{FileLists};
 ghost use Rattle.file_model.specs.Reading.{file_in};
 ghost use Rattle.view_outside.specs.Faults.{Rose};
 ghost use Rattle.view_outside.specs.Files.{HasFile, file_bytes};
-ghost use Rattle.dag_check.specs.Checks.{IsMeshOf};
+ghost use Rattle.accepted_mesh.specs.MeshView.{IsMeshOf};
 ghost use Rattle.body_loads.specs.Loads.{LoadsOnlyIf};
 ghost use Rattle.still_texts.specs.Shown.{IsBaseText};
 ghost use Rattle.still_texts.specs.Texts.{GivesText};
 
 use body_loads::{LoadRefusal, load_bodies};
-use dag_check::Mesh;
+use accepted_mesh::Mesh;
 use frame_writer::frame_text;
 use std::alloc::Global;
 use view_outside::Store;

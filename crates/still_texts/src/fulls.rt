@@ -8,15 +8,16 @@ ghost use Rattle.view_outside.specs.Faults.{Rose};
 ghost use Rattle.view_outside.specs.Files.{HasFile, file_bytes};
 ghost use Rattle.round_model.specs.declared.asks.Ask.TheVariants.{Done};
 ghost use Rattle.round_model.specs.Rounds.{IsWhole};
-ghost use Rattle.round_model.specs.Refiners.{asked, stand_of};
-ghost use Rattle.dag_check.specs.Checks.{IsMeshOf};
+ghost use Rattle.round_model.specs.Refiners.{pending_ask, round_state};
+ghost use Rattle.accepted_mesh.specs.MeshView.{IsMeshOf};
 ghost use Rattle.body_loads.specs.Loads.{LoadsOnlyIf};
-ghost use Rattle.still_texts.specs.Full.{IsFullText, view_rules};
+ghost use Rattle.round_model.specs.Views.{view_rules};
+ghost use Rattle.still_texts.specs.Full.{IsFullText};
 ghost use Rattle.still_texts.specs.Texts.{GivesText};
 
 use body_loads::{LoadRefusal, load_bodies};
 use cut_refiner::{Ask, Refiner};
-use dag_check::Mesh;
+use accepted_mesh::Mesh;
 use error_metric::View;
 use frame_writer::frame_text;
 use grid_vertex::NoMemory;
@@ -26,8 +27,8 @@ use view_outside::Store;
 // A round of the view in which every try is granted.
 fn granted_round<'m>(alloc: Global, mesh: &'m Mesh, view: &View) -> Result<Refiner<'m>, NoMemory>
     ensures rules { IfOk result (λ round. round.rules ≡ view_rules view.now mesh.now.lists) }
-    ensures done { IfOk result (λ round. asked round ≡ Done) }
-    ensures whole { IfOk result (λ round. IsWhole (stand_of round)) }
+    ensures done { IfOk result (λ round. pending_ask round ≡ Done) }
+    ensures whole { IfOk result (λ round. IsWhole (round_state round)) }
     ensures granted { IfOk result (λ round. AllByRecursion (λ answer. answer.epoch ≡ 1) round.tries) }
 {
     let mut round = Refiner::begin(alloc, mesh, view, view.limit())?;

@@ -3,7 +3,7 @@
 use Rattle.std.proofs.Common.{◌≡◌, ℕ, ◌⊎◌, List, [], ◌∷◌, ◌++◌, refl, sym, ap, subst, ◌∙◌, append-nil, inl, inr}
 use Rattle.std.specs.List.{AllByRecursion}
 use Rattle.round_model.specs.Order.{Rules}
-use Rattle.round_model.specs.Rounds.{Stand, round_of, IsWhole}
+use Rattle.round_model.specs.Rounds.{RoundState, round_of, IsWhole}
 use Rattle.round_laws.specs.Epochs.{round_through}
 use Rattle.still_texts.specs.Full.{IsGranted}
 
@@ -30,7 +30,7 @@ one_begins (epoch ∷ epochs) (other ∷ others) h k =
 -- a round that is whole has no use for more
 none_more : (rules : Rules) (epochs more : List ℕ) → IsWhole (round_of rules epochs) → IsWhole (round_of rules (epochs ++ more)) → more ≡ []
 none_more rules epochs more whole longer =
-    ap (λ (unused : List ℕ). unused ++ more) (sym whole.used) ∙ ap (λ (stand : Stand). stand.unused) (sym (round_through rules epochs more whole.through)) ∙ longer.used
+    ap (λ (unused : List ℕ). unused ++ more) (sym whole.used) ∙ ap (λ (stand : RoundState). stand.unused) (sym (round_through rules epochs more whole.through)) ∙ longer.used
 
 whole_is_one : (rules : Rules) (epochs others : List ℕ) → IsWhole (round_of rules epochs) → IsWhole (round_of rules others) → Begins epochs others → epochs ≡ others
 whole_is_one rules epochs others whole other (more, is) =

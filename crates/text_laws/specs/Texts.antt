@@ -4,10 +4,12 @@ use Rattle.file_model.specs.Lists.{FileLists}
 use Rattle.mesh_model.specs.Frames.{root_alone}
 use Rattle.mesh_model.specs.Meshes.{MeshLists}
 use Rattle.text_model.specs.FrameText.{Frame, IsFrameText}
-use Rattle.round_model.specs.Rounds.{Stand, has, round_of}
-use Rattle.error_metric.specs.Views.{ViewSeen}
-use Rattle.still_texts.specs.Shown.{ShowsCut, IsStill, IsBaseText}
-use Rattle.still_texts.specs.Full.{view_rules, IsGranted, IsFullText}
+use Rattle.round_model.specs.Rounds.{RoundState, has, round_of}
+use Rattle.round_model.specs.Views.{ViewSeen}
+use Rattle.text_model.specs.ShownCuts.{ShowsCut}
+use Rattle.still_texts.specs.Shown.{IsStill, IsBaseText}
+use Rattle.round_model.specs.Views.{view_rules}
+use Rattle.still_texts.specs.Full.{IsGranted, IsFullText}
 use Rattle.text_laws.specs.FrameTexts.{frame_text_is_one}
 use Rattle.text_laws.specs.Meshes.{mesh_is_one}
 use Rattle.text_laws.specs.Rounds.{granted_is_one}
@@ -35,18 +37,18 @@ base_text_is_one file root text other h k =
 -- ---- a view
 
 -- where the round of a view stands
-abbrev stand_of : ViewSeen → MeshLists → List ℕ → Stand
-stand_of view mesh epochs = round_of (view_rules view mesh) epochs
+abbrev round_state : ViewSeen → MeshLists → List ℕ → RoundState
+round_state view mesh epochs = round_of (view_rules view mesh) epochs
 
-stand_is_one : (view : ViewSeen) (mesh other : MeshLists) (epochs others : List ℕ) → mesh ≡ other → IsGranted (view_rules view mesh) epochs → IsGranted (view_rules view other) others → stand_of view mesh epochs ≡ stand_of view other others
+stand_is_one : (view : ViewSeen) (mesh other : MeshLists) (epochs others : List ℕ) → mesh ≡ other → IsGranted (view_rules view mesh) epochs → IsGranted (view_rules view other) others → round_state view mesh epochs ≡ round_state view other others
 stand_is_one view mesh other epochs others same h k =
     let one = granted_is_one (view_rules view other) epochs others (subst (λ (m : MeshLists). IsGranted (view_rules view m) epochs) same h) k in
-    λ i. stand_of view (same i) (one i)
+    λ i. round_state view (same i) (one i)
 
 pub full_text_is_one : (view : ViewSeen) (file : FileLists) (root : ℕ) (text other : List ℕ) → IsFullText view file root text → IsFullText view file root other → text ≡ other
 full_text_is_one view file root text other h k =
     let mesh = mesh_is_one h.mesh k.mesh h.is_mesh k.is_mesh (h.of_file ∙ sym k.of_file) (h.from_root ∙ sym k.from_root) in
     let stand = stand_is_one view h.mesh k.mesh h.epochs k.epochs mesh h.granted k.granted in
-    let shows = subst (λ (s : Stand). ShowsCut file root (has s.set) h.frame) stand h.shows in
-    let tries = h.tries ∙ ap (λ (s : Stand). s.tries) stand ∙ sym k.tries in
-    text_of_one h.frame k.frame text other (frame_is_one file root (has (stand_of view k.mesh k.epochs).set) h.frame k.frame h.still k.still shows k.shows tries) h.is k.is
+    let shows = subst (λ (s : RoundState). ShowsCut file root (has s.set) h.frame) stand h.shows in
+    let tries = h.tries ∙ ap (λ (s : RoundState). s.tries) stand ∙ sym k.tries in
+    text_of_one h.frame k.frame text other (frame_is_one file root (has (round_state view k.mesh k.epochs).set) h.frame k.frame h.still k.still shows k.shows tries) h.is k.is

@@ -11,7 +11,7 @@ ghost use Rattle.mesh_model.specs.Meshes.{MeshLists, IsMesh};
 ghost use Rattle.text_model.specs.FrameText.{Frame, IsFrameText};
 ghost use Rattle.text_model.specs.AcceptedText.{IsAcceptedText};
 ghost use Rattle.round_model.specs.Order.{Rules};
-ghost use Rattle.error_metric.specs.Views.{ViewSeen};
+ghost use Rattle.round_model.specs.Views.{ViewSeen};
 ghost use Rattle.still_texts.specs.Shown.{IsBaseText};
 ghost use Rattle.still_texts.specs.Full.{IsGranted, IsFullText};
 

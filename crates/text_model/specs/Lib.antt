@@ -2,3 +2,4 @@ pub mod Lines
 pub mod FrameText
 pub mod StatusText
 pub mod AcceptedText
+pub mod ShownCuts

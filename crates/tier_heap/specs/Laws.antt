@@ -18,6 +18,10 @@ not_above_self a = grind (arith, nat_tests)
 pub above_from_not_below : (a b : ℕ × ℕ) → a.0 ≢ b.0 → is_above b a ≡ false → is_above a b ≡ true
 above_from_not_below a b ne h = grind (arith, nat_tests)
 
+-- an entry is above all that one below it is above
+pub above_trans : (a b c : ℕ × ℕ) → is_above a b ≡ true → is_above b c ≡ true → is_above a c ≡ true
+above_trans a b c h l = grind (arith, nat_tests)
+
 -- what isn't above an entry isn't above one that the entry isn't above
 pub not_above_trans : (a b c : ℕ × ℕ) → is_above b a ≡ false → is_above c b ≡ false → is_above c a ≡ false
 not_above_trans a b c h l = grind (arith, nat_tests)

@@ -1,5 +1,4 @@
 pub mod Changes
-pub mod Epochs
 pub mod Evictions
 pub mod Sessions
 pub mod PlainTokens

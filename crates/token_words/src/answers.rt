@@ -1,7 +1,9 @@
 //! What a try and an eviction are answered.
 
 ghost use Rattle.std.specs.Prelude.{◌≡◌};
-ghost use Rattle.token_words.specs.Epochs.{is_odd};
+ghost use Rattle.file_model.specs.Tries.{is_odd};
+
+use file_model::is_granted;
 
 /// The answer to a try.
 #[derive(Clone, Copy, Debug, PartialEq, Eq)]
@@ -15,7 +17,7 @@ impl Seen {
     pub fn is_granted(self) -> bool
         ensures { result ≡ is_odd self.epoch }
     {
-        self.epoch % 2 == 1
+        is_granted(self.epoch)
     }
 }
 

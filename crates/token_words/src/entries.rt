@@ -2,7 +2,7 @@
 
 ghost use Rattle.std.specs.Prelude.{◌≡◌, ℕ, ◌+◌, ◌<◌, ◌≤◌, true, false, if◌then◌else◌};
 ghost use Rattle.token_words.specs.Changes.{SetAt};
-ghost use Rattle.token_words.specs.Epochs.{is_odd};
+ghost use Rattle.file_model.specs.Tries.{is_odd};
 ghost use Rattle.token_words.specs.Evictions.{epoch_after, uses_found, NeedsUse};
 ghost use Rattle.token_words.specs.declared.keeping.TheConstants.{LAST_EPOCH};
 ghost use Rattle.token_words.specs.Sessions.{IsSession, has_session, session_count, IsWithin};

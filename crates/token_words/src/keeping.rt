@@ -2,7 +2,7 @@
 
 ghost use Rattle.std.specs.Prelude.{◌≡◌, ℕ, ◌+◌, ◌<◌, Bool, true, false, List, [], ◌++◌};
 ghost use Rattle.token_words.specs.Changes.{SetAt, Stays, SetsStay};
-ghost use Rattle.token_words.specs.Epochs.{is_odd};
+ghost use Rattle.file_model.specs.Tries.{is_odd};
 ghost use Rattle.token_words.specs.Evictions.{epoch_after, uses_found, misses_of, NeedsUse};
 ghost use Rattle.token_words.specs.Sessions.{session_count};
 

@@ -2,7 +2,7 @@
 use Rattle.std.specs.Prelude.{ℕ, ◌==◌, List, [], ◌∷◌, length, Option, Some, None, option_map, ℤ, codes, bytes_eq, if◌then◌else◌}
 use Rattle.grid_vertex.specs.declared.points.Point.{Point}
 use Rattle.number_words.specs.Numbers.{number_in, signed_in}
-use Rattle.error_metric.specs.Views.{ViewSeen, view_of}
+use Rattle.round_model.specs.Views.{ViewSeen, view_of}
 use Rattle.viewer_program.specs.declared.commands.Command.{Command}
 use Rattle.viewer_program.specs.declared.commands.Command.TheVariants.{Base, Check, Full}
 

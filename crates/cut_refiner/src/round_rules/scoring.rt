@@ -2,7 +2,7 @@
 
 ghost use Rattle.std.specs.Prelude.{◌≡◌, IfOk};
 
-use dag_check::Mesh;
+use accepted_mesh::Mesh;
 use error_metric::Want;
 use grid_vertex::NoMemory;
 use std::alloc::Global;

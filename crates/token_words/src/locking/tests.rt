@@ -5,7 +5,7 @@ ghost use Rattle.std.specs.List.{list_all};
 ghost use Rattle.std.specs.List.Sorted.{IsStrictlyIncreasing};
 ghost use Rattle.token_words.specs.Batches.{Gains, Loses};
 ghost use Rattle.token_words.specs.Changes.{Stays, ChangesOnly};
-ghost use Rattle.token_words.specs.Epochs.{is_odd};
+ghost use Rattle.file_model.specs.Tries.{is_odd};
 
 use crate::locking::Tokens;
 

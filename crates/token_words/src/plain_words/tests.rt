@@ -2,7 +2,7 @@
 
 ghost use Rattle.std.specs.Prelude.{◌≡◌, ◌+◌, ◌<◌, true, false};
 ghost use Rattle.token_words.specs.Changes.{SetAt};
-ghost use Rattle.token_words.specs.Epochs.{is_odd};
+ghost use Rattle.file_model.specs.Tries.{is_odd};
 ghost use Rattle.token_words.specs.Evictions.{epoch_after, NeedsUse};
 ghost use Rattle.token_words.specs.Sessions.{IsSession, has_session};
 ghost use Rattle.token_words.specs.PlainTokens.{patch_count, is_user, is_locker, session_of};

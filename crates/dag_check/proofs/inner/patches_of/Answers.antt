@@ -1,7 +1,7 @@
 -- An inner node's patches are counted on both sides.
 use Rattle.std.proofs.Common.{◌≡◌, ℕ, ◌+◌, length, ap, ◌∙◌, sym, arith, Bool, true, if◌then◌else◌}
 use Rattle.mesh_model.specs.Accepted.{is_inner}
-use Rattle.dag_check.specs.Tracks.{to_come, taken_both}
+use Rattle.dag_check.specs.NodeSums.{to_come, taken_both}
 use Rattle.dag_check.proofs.IndexLaws.{incoming_has, outgoing_has}
 use Rattle.dag_check.proofs.inner.patches_of.Goals as goal
 

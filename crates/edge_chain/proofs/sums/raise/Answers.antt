@@ -3,7 +3,7 @@ use Rattle.std.proofs.Common.{◌≡◌, ◌∙◌, sym, ap, true, ℤ, pos, ref
 use Rattle.std.specs.Prelude.{Some, None, Option}
 use Rattle.std.specs.Ordering.{int_eq}
 use Rattle.std.specs.Option.{option_eq}
-use Rattle.edge_chain.specs.Sums.{sum_of, with_sum, unless_zero, turned}
+use Rattle.edge_chain.specs.Sums.{sum_of, with_sum, unless_zero, signed_sum}
 use Rattle.edge_chain.proofs.SumLaws.{overwritten}
 use Rattle.edge_chain.proofs.sums.raise.Goals as goal
 
@@ -14,8 +14,8 @@ zero_goes (Some x) e = rw (← e) refl
 pub returns-then-turn_sum : goal.returns-then-turn_sum
 returns-then-turn_sum c =
     let f = sum_of c.args.sums.now in
-    let edge = c.args.side.edge in
-    let gone = zero_goes (turned c.args.side (f edge)) (sym c.if-turn_sum.true ∙ c.turn_sum.ensures.zero) in
+    let edge = c.args.directed.edge in
+    let gone = zero_goes (signed_sum c.args.directed (f edge)) (sym c.if-turn_sum.true ∙ c.turn_sum.ensures.zero) in
     record {
       each = λ q.
           c.remove.ensures.updates.0 q

@@ -1,5 +1,5 @@
 use Rattle.std.proofs.Common.{ℕ, ◌+◌, Option, length, arith, sym, ◌∙◌, subst}
-use Rattle.mesh_graph.specs.Arcs.{is_bare_at}
+use Rattle.mesh_graph.specs.Adjacency.{is_bare_at}
 use Rattle.mesh_graph.proofs.RootLaws.{HasFound, found_none, found_one, found_two, found_all, answer_is}
 use Rattle.mesh_graph.proofs.roots.find_root.Goals as goal
 use Rattle.mesh_graph.proofs.roots.find_root.Goals.{then-is_bare+in_default, else-is_bare}

@@ -1,5 +1,5 @@
 use Rattle.std.proofs.Common.{length}
-use Rattle.mesh_graph.specs.Arcs.{is_bare_at}
+use Rattle.mesh_graph.specs.Adjacency.{is_bare_at}
 use Rattle.mesh_graph.proofs.RootLaws.{HasFound}
 use Rattle.mesh_graph.proofs.roots.find_root.Given as goal
 

@@ -1,5 +1,5 @@
 use Rattle.std.proofs.Common.{ap, ◌∙◌}
-use Rattle.patch_body.specs.Seen.{SeenBody}
+use Rattle.file_model.specs.Lists.{SeenBody}
 use Rattle.patch_file.proofs.Appending.{Wrote-failed, item_part}
 use Rattle.patch_file.proofs.writing.write_bodies.Goals as goal
 

@@ -2,7 +2,7 @@ use Rattle.std.proofs.Common.{◌≡◌, subst, ap, ◌∙◌}
 use Rattle.std.specs.List.{flat_map}
 use Rattle.file_model.specs.Lists.{FileLists}
 use Rattle.file_model.specs.Spelling.{body_text, file_text}
-use Rattle.patch_body.specs.Seen.{SeenBody}
+use Rattle.file_model.specs.Lists.{SeenBody}
 use Rattle.patch_file.specs.Written.{Wrote, WritesPart-more}
 use Rattle.patch_file.proofs.Appending.{Wrote-failed, Wrote-after, bodies_text}
 use Rattle.patch_file.proofs.writing.write_file.Goals as goal

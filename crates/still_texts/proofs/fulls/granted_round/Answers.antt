@@ -1,11 +1,11 @@
 -- Each try is granted by epoch 1, until none is asked for.
 use Rattle.std.proofs.Common.{[], ◌∷◌, refl, sym, ◌∙◌, arith, length-append}
-use Rattle.round_model.specs.Refiners.{told}
+use Rattle.round_model.specs.Refiners.{after_answer}
 use Rattle.still_texts.proofs.FullLemmas.{done_from, granted_more}
 use Rattle.still_texts.proofs.fulls.granted_round.Goals as goal
 
 pub loop-round-smaller : goal.loop-round-smaller
-unfolding told
+unfolding after_answer
 loop-round-smaller c =
     let patch = c.in-Lock.field-0 in
     let lock = sym c.ask.ensures.asked ∙ c.in-Lock.is in
@@ -15,7 +15,7 @@ loop-round-smaller c =
     rw told_is (omega (arith, room, more))
 
 pub loop-round-preserved : goal.loop-round-preserved
-unfolding told
+unfolding after_answer
 loop-round-preserved c =
     let patch = c.in-Lock.field-0 in
     let lock = sym c.ask.ensures.asked ∙ c.in-Lock.is in

@@ -1,7 +1,7 @@
 -- Every try so far was granted, so nothing is owed.
 use Rattle.std.proofs.Common.{◌≡◌, ◌-◌, [], length}
 use Rattle.std.specs.List.{AllByRecursion}
-use Rattle.still_texts.specs.Full.{view_rules}
+use Rattle.round_model.specs.Views.{view_rules}
 use Rattle.still_texts.proofs.fulls.granted_round.Given as goal
 
 abbrev pub invariant-loop-round : goal.invariant-loop-round

@@ -25,8 +25,8 @@ invariant_of-result g c =
     let patches = c.patch_count.ensures.value ∙ ap (λ (i : IndexLists). length i.fields) index in
     record {
       are = c.mesh.ensures.facts;
-      at = subst (λ (ts : List Try). IsAt c.in_ok-rules.rules ts c.go_on-hand.new.course (length c.in_ok-locks.locks.locked) c.go_on-hand.result) (sym c.in_ok-tries.ensures.items)
-          (at_start c.in_ok-rules.rules c.in_ok-course.course c.go_on-hand.new.course (length c.in_ok-locks.locks.locked) c.go_on-hand.result (ap length c.in_ok-locks.ensures.locked) c.in_ok-course.ensures.set c.in_ok-course.ensures.going c.go_on-hand.ensures.front (c.go_on-hand.ensures.next (node_order c.in_ok-rules.rules) c.in_ok-course.ensures.going));
+      at = subst (λ (ts : List Try). IsAt c.in_ok-rules.rules ts c.go_on-hand.new.refinement (length c.in_ok-locks.locks.locked) c.go_on-hand.result) (sym c.in_ok-tries.ensures.items)
+          (at_start c.in_ok-rules.rules c.in_ok-refinement.refinement c.go_on-hand.new.refinement (length c.in_ok-locks.locks.locked) c.go_on-hand.result (ap length c.in_ok-locks.ensures.locked) c.in_ok-refinement.ensures.set c.in_ok-refinement.ensures.going c.go_on-hand.ensures.growing (c.go_on-hand.ensures.next (node_order c.in_ok-rules.rules) c.in_ok-refinement.ensures.going));
       room = omega (arith, patches, c.in_ok-tries.ensures.exact);
       are_lists = c.go_on-hand.ensures.lists;
       are_first = first_none c.in_ok-rules.rules c.in_ok-locks.locks.locked c.go_on-hand.result c.in_ok-locks.ensures.locked;

@@ -13,7 +13,7 @@ returns c = gave_is c.self.inside.rules c.self.inside.tries.items c.self.inside.
 pub invariant_of-self : goal.invariant_of-self
 invariant_of-self c = record {
   are = c.self.invariant.are;
-  at = subst (λ (ps : List ℕ). IsAt c.self.inside.rules c.self.inside.tries.items c.self.inside.course (length ps) c.self.inside.hand) (sym c.give_back.ensures.locked) c.self.invariant.at;
+  at = subst (λ (ps : List ℕ). IsAt c.self.inside.rules c.self.inside.tries.items c.self.inside.refinement (length ps) c.self.inside.hand) (sym c.give_back.ensures.locked) c.self.invariant.at;
   room = c.self.invariant.room;
   are_lists = c.self.invariant.are_lists;
   are_first = subst (λ (ps : List ℕ). AreFirst c.self.inside.rules ps c.self.inside.hand) (sym c.give_back.ensures.locked) c.self.invariant.are_first;

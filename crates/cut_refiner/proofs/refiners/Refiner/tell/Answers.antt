@@ -15,42 +15,42 @@ use Rattle.cut_refiner.proofs.refiners.Refiner.tell.Goals as goal
 pub unreachable-requires : goal.unreachable-requires
 unreachable-requires c =
     let granted = length c.self.inside.locks.locked in
-    not_through c.self.inside.rules c.self.inside.tries.items c.self.inside.locks.owed c.self.inside.course c.args.self.now c.self.view_is c.requires.0 c.requires.1 granted
-    (subst (IsAt c.self.inside.rules c.self.inside.tries.items c.self.inside.course granted) c.in-None.is c.self.invariant.at)
+    not_through c.self.inside.rules c.self.inside.tries.items c.self.inside.locks.owed c.self.inside.refinement c.args.self.now c.self.view_is c.requires.0 c.requires.1 granted
+    (subst (IsAt c.self.inside.rules c.self.inside.tries.items c.self.inside.refinement granted) c.in-None.is c.self.invariant.at)
 
 pub outgoing-patches-requires : goal.outgoing-patches-requires
 outgoing-patches-requires c =
     let granted = length c.self.inside.locks.locked in
-    let trying = subst (IsAt c.self.inside.rules c.self.inside.tries.items c.self.inside.course granted) c.in-Some.is c.self.invariant.at in
-    rw c.mesh.ensures.value (node_in c.self.inside.rules c.self.inside.tries.items c.self.inside.course c.in-Some.node granted trying)
+    let trying = subst (IsAt c.self.inside.rules c.self.inside.tries.items c.self.inside.refinement granted) c.in-Some.is c.self.invariant.at in
+    rw c.mesh.ensures.value (node_in c.self.inside.rules c.self.inside.tries.items c.self.inside.refinement c.in-Some.node granted trying)
 
 pub bounds-patches-count : goal.bounds-patches-count
 bounds-patches-count c =
     let granted = length c.self.inside.locks.locked in
-    let trying = subst (IsAt c.self.inside.rules c.self.inside.tries.items c.self.inside.course granted) c.in-Some.is c.self.invariant.at in
-    rw (c.count.ensures, c.outgoing-patches.ensures, c.mesh.ensures.value) (granted_within c.self.inside.rules c.self.inside.tries.items c.self.inside.course c.in-Some.node granted trying)
+    let trying = subst (IsAt c.self.inside.rules c.self.inside.tries.items c.self.inside.refinement granted) c.in-Some.is c.self.invariant.at in
+    rw (c.count.ensures, c.outgoing-patches.ensures, c.mesh.ensures.value) (granted_within c.self.inside.rules c.self.inside.tries.items c.self.inside.refinement c.in-Some.node granted trying)
 
 pub offset_bounds-patches-count : goal.offset_bounds-patches-count
 offset_bounds-patches-count c =
     let granted = length c.self.inside.locks.locked in
-    let trying = subst (IsAt c.self.inside.rules c.self.inside.tries.items c.self.inside.course granted) c.in-Some.is c.self.invariant.at in
-    let within : granted < length c.outgoing-patches.result.now = rw (c.outgoing-patches.ensures, c.mesh.ensures.value) (granted_within c.self.inside.rules c.self.inside.tries.items c.self.inside.course c.in-Some.node granted trying) in
+    let trying = subst (IsAt c.self.inside.rules c.self.inside.tries.items c.self.inside.refinement granted) c.in-Some.is c.self.invariant.at in
+    let within : granted < length c.outgoing-patches.result.now = rw (c.outgoing-patches.ensures, c.mesh.ensures.value) (granted_within c.self.inside.rules c.self.inside.tries.items c.self.inside.refinement c.in-Some.node granted trying) in
     omega (arith, within, c.count.ensures, c.outgoing-patches.type_inv.1)
 
 pub push_reserved-requires : goal.push_reserved-requires
 push_reserved-requires c =
     let granted = length c.self.inside.locks.locked in
-    let trying = subst (IsAt c.self.inside.rules c.self.inside.tries.items c.self.inside.course granted) c.in-Some.is c.self.invariant.at in
-    omega (arith, room_for_one c.self.inside.rules c.self.inside.tries.items c.self.inside.course c.in-Some.node granted trying, c.self.invariant.room, c.self.inside.tries.ok.0)
+    let trying = subst (IsAt c.self.inside.rules c.self.inside.tries.items c.self.inside.refinement granted) c.in-Some.is c.self.invariant.at in
+    omega (arith, room_for_one c.self.inside.rules c.self.inside.tries.items c.self.inside.refinement c.in-Some.node granted trying, c.self.invariant.room, c.self.inside.tries.ok.0)
 
 pub add-requires : goal.add-requires
 add-requires c =
     let rules = c.self.inside.rules in
     let node = c.in-Some.node in
     let granted = length c.self.inside.locks.locked in
-    let trying = subst (IsAt rules c.self.inside.tries.items c.self.inside.course granted) c.in-Some.is c.self.invariant.at in
-    let room : length (outgoing rules.mesh.index.fields node) ≤ c.self.inside.locks.room = c.self.invariant.for_each node (node_in rules c.self.inside.tries.items c.self.inside.course node granted trying) in
-    omega (arith, granted_within rules c.self.inside.tries.items c.self.inside.course node granted trying, room)
+    let trying = subst (IsAt rules c.self.inside.tries.items c.self.inside.refinement granted) c.in-Some.is c.self.invariant.at in
+    let room : length (outgoing rules.mesh.index.fields node) ≤ c.self.inside.locks.room = c.self.invariant.for_each node (node_in rules c.self.inside.tries.items c.self.inside.refinement node granted trying) in
+    omega (arith, granted_within rules c.self.inside.tries.items c.self.inside.refinement node granted trying, room)
 
 -- ---- the node misses
 
@@ -60,14 +60,14 @@ invariant_of-self c =
     let tries = c.self.inside.tries.items in
     let node = c.in-Some.node in
     let granted = length c.self.inside.locks.locked in
-    let trying = subst (IsAt rules tries c.self.inside.course granted) c.in-Some.is c.self.invariant.at in
+    let trying = subst (IsAt rules tries c.self.inside.refinement granted) c.in-Some.is c.self.invariant.at in
     let arcs : c.outgoing-patches.result.now ≡ outgoing rules.mesh.index.fields node = c.outgoing-patches.ensures ∙ ap (λ (m : MeshLists). outgoing m.index.fields node) c.mesh.ensures.value in
     let tries_are = noted rules tries c.push_reserved.new.self.items node granted c.count.result c.args.epoch c.outgoing-patches.result.now c.push_reserved.ensures.items arcs c.count.ensures in
     let now = c.owe.new.self.locked in
     record {
       are = c.self.invariant.are;
-      at = subst (λ (ts : List Try). IsAt rules ts c.go_on-self-inside.new.course (length now) c.go_on-self-inside.result) (sym tries_are)
-          (after_miss rules tries c.self.inside.course node granted c.args.epoch trying c.go_on-self-inside.new.course (length now) c.go_on-self-inside.result (ap length c.owe.ensures.locked) (sym c.is_granted.ensures ∙ c.if-not-is_granted.true) c.go_on-self-inside.ensures.front c.go_on-self-inside.ensures.next);
+      at = subst (λ (ts : List Try). IsAt rules ts c.go_on-self-inside.new.refinement (length now) c.go_on-self-inside.result) (sym tries_are)
+          (after_miss rules tries c.self.inside.refinement node granted c.args.epoch trying c.go_on-self-inside.new.refinement (length now) c.go_on-self-inside.result (ap length c.owe.ensures.locked) (sym c.is_granted.ensures ∙ c.if-not-is_granted.true) c.go_on-self-inside.ensures.growing c.go_on-self-inside.ensures.next);
       room = omega (arith, c.self.invariant.room, c.push_reserved.ensures.capacity);
       are_lists = c.go_on-self-inside.ensures.lists;
       are_first = first_none rules now c.go_on-self-inside.result c.owe.ensures.locked;
@@ -80,13 +80,13 @@ returns-then-not-is_granted c = λ patch asks.
     let tries = c.self.inside.tries.items in
     let node = c.in-Some.node in
     let granted = length c.self.inside.locks.locked in
-    let trying = subst (IsAt rules tries c.self.inside.course granted) c.in-Some.is c.self.invariant.at in
+    let trying = subst (IsAt rules tries c.self.inside.refinement granted) c.in-Some.is c.self.invariant.at in
     let arcs : c.outgoing-patches.result.now ≡ outgoing rules.mesh.index.fields node = c.outgoing-patches.ensures ∙ ap (λ (m : MeshLists). outgoing m.index.fields node) c.mesh.ensures.value in
     let tries_are = noted rules tries c.push_reserved.new.self.items node granted c.count.result c.args.epoch c.outgoing-patches.result.now c.push_reserved.ensures.items arcs c.count.ensures in
     let owed_is = c.owe.ensures.owed ∙ subst (AreFirst rules c.self.inside.locks.locked) c.in-Some.is c.self.invariant.are_first in
     ap (λ (ts : List Try). seen_as rules ts c.owe.new.self.owed) tries_are
     ∙ ap (seen_as rules (tries ++ try_of (get_or (outgoing rules.mesh.index.fields node) granted 0) c.args.epoch ∷ [])) owed_is
-    ∙ told_refused rules tries c.self.inside.locks.owed c.self.inside.course c.args.self.now c.self.view_is patch asks node granted trying c.args.epoch (sym c.is_granted.ensures ∙ c.if-not-is_granted.true)
+    ∙ told_refused rules tries c.self.inside.locks.owed c.self.inside.refinement c.args.self.now c.self.view_is patch asks node granted trying c.args.epoch (sym c.is_granted.ensures ∙ c.if-not-is_granted.true)
 
 -- ---- its next patch is tried
 
@@ -97,7 +97,7 @@ invariant_of-self-then-count-patches c =
     let node = c.in-Some.node in
     let locked = c.self.inside.locks.locked in
     let granted = length locked in
-    let trying = subst (IsAt rules tries c.self.inside.course granted) c.in-Some.is c.self.invariant.at in
+    let trying = subst (IsAt rules tries c.self.inside.refinement granted) c.in-Some.is c.self.invariant.at in
     let arcs : c.outgoing-patches.result.now ≡ outgoing rules.mesh.index.fields node = c.outgoing-patches.ensures ∙ ap (λ (m : MeshLists). outgoing m.index.fields node) c.mesh.ensures.value in
     let tries_are = noted rules tries c.push_reserved.new.self.items node granted c.count.result c.args.epoch c.outgoing-patches.result.now c.push_reserved.ensures.items arcs c.count.ensures in
     let now = c.add.new.self.locked in
@@ -106,16 +106,16 @@ invariant_of-self-then-count-patches c =
     ∙ ap (λ (ps : List ℕ). locked ++ get_or ps granted 0 ∷ []) arcs in
     let many : length now ≡ granted + 1 = ap length read ∙ length_push locked (get_or (outgoing rules.mesh.index.fields node) granted 0) in
     let more : granted + 1 < length (outgoing rules.mesh.index.fields node) = omega (arith, ap length arcs, many, c.count-2.ensures, c.if-count-patches.true) in
-    let next = granted_next rules tries c.self.inside.course node granted trying c.args.epoch (sym c.is_granted.ensures ∙ c.if-not-is_granted.false) more in
+    let next = granted_next rules tries c.self.inside.refinement node granted trying c.args.epoch (sym c.is_granted.ensures ∙ c.if-not-is_granted.false) more in
     record {
       are = c.self.invariant.are;
-      at = subst (λ (ts : List Try). IsAt rules ts c.self.inside.course (length now) c.self.inside.hand) (sym tries_are)
-          (subst (IsAt rules (tries ++ try_of (get_or (outgoing rules.mesh.index.fields node) granted 0) c.args.epoch ∷ []) c.self.inside.course (length now)) (sym c.in-Some.is)
-          (subst (λ n. IsAt rules (tries ++ try_of (get_or (outgoing rules.mesh.index.fields node) granted 0) c.args.epoch ∷ []) c.self.inside.course n (Some node)) (sym many) next));
+      at = subst (λ (ts : List Try). IsAt rules ts c.self.inside.refinement (length now) c.self.inside.hand) (sym tries_are)
+          (subst (IsAt rules (tries ++ try_of (get_or (outgoing rules.mesh.index.fields node) granted 0) c.args.epoch ∷ []) c.self.inside.refinement (length now)) (sym c.in-Some.is)
+          (subst (λ n. IsAt rules (tries ++ try_of (get_or (outgoing rules.mesh.index.fields node) granted 0) c.args.epoch ∷ []) c.self.inside.refinement n (Some node)) (sym many) next));
       room = omega (arith, c.self.invariant.room, c.push_reserved.ensures.capacity);
       are_lists = c.self.invariant.are_lists;
       are_first = subst (AreFirst rules now) (sym c.in-Some.is)
-          (first_more (outgoing rules.mesh.index.fields node) locked now (subst (AreFirst rules locked) c.in-Some.is c.self.invariant.are_first) (granted_within rules tries c.self.inside.course node granted trying) read);
+          (first_more (outgoing rules.mesh.index.fields node) locked now (subst (AreFirst rules locked) c.in-Some.is c.self.invariant.are_first) (granted_within rules tries c.self.inside.refinement node granted trying) read);
       for_each = λ v is_node. omega (arith, c.self.invariant.for_each v is_node, c.add.ensures.room);
     }
 
@@ -125,26 +125,26 @@ returns-then-count-patches c = λ patch asks.
     let tries = c.self.inside.tries.items in
     let node = c.in-Some.node in
     let granted = length c.self.inside.locks.locked in
-    let trying = subst (IsAt rules tries c.self.inside.course granted) c.in-Some.is c.self.invariant.at in
+    let trying = subst (IsAt rules tries c.self.inside.refinement granted) c.in-Some.is c.self.invariant.at in
     let arcs : c.outgoing-patches.result.now ≡ outgoing rules.mesh.index.fields node = c.outgoing-patches.ensures ∙ ap (λ (m : MeshLists). outgoing m.index.fields node) c.mesh.ensures.value in
     let tries_are = noted rules tries c.push_reserved.new.self.items node granted c.count.result c.args.epoch c.outgoing-patches.result.now c.push_reserved.ensures.items arcs c.count.ensures in
     ap (λ (ts : List Try). seen_as rules ts c.add.new.self.owed) tries_are
     ∙ ap (seen_as rules (tries ++ try_of (get_or (outgoing rules.mesh.index.fields node) granted 0) c.args.epoch ∷ [])) c.add.ensures.owed
-    ∙ told_granted rules tries c.self.inside.locks.owed c.self.inside.course c.args.self.now c.self.view_is patch asks node granted trying c.args.epoch (sym c.is_granted.ensures ∙ c.if-not-is_granted.false)
+    ∙ told_granted rules tries c.self.inside.locks.owed c.self.inside.refinement c.args.self.now c.self.view_is patch asks node granted trying c.args.epoch (sym c.is_granted.ensures ∙ c.if-not-is_granted.false)
 
 -- ---- the node joins
 
 pub join-requires : goal.join-requires
 join-requires c =
     let granted = length c.self.inside.locks.locked in
-    let trying = subst (IsAt c.self.inside.rules c.self.inside.tries.items c.self.inside.course granted) c.in-Some.is c.self.invariant.at in
-    (trying.rest, can_join c.self.inside.rules c.self.inside.tries.items c.self.inside.course c.in-Some.node granted c.args.epoch trying c.self.invariant.are)
+    let trying = subst (IsAt c.self.inside.rules c.self.inside.tries.items c.self.inside.refinement granted) c.in-Some.is c.self.invariant.at in
+    (trying.rest, can_join c.self.inside.rules c.self.inside.tries.items c.self.inside.refinement c.in-Some.node granted c.args.epoch trying c.self.invariant.are)
 
 pub go_on-self-inside-requires-2-clause-going : goal.go_on-self-inside-requires-2-clause-going
 go_on-self-inside-requires-2-clause-going c =
     let granted = length c.self.inside.locks.locked in
-    let trying = subst (IsAt c.self.inside.rules c.self.inside.tries.items c.self.inside.course granted) c.in-Some.is c.self.invariant.at in
-    (trying.rest, c.join.ensures.going trying.rest (can_join c.self.inside.rules c.self.inside.tries.items c.self.inside.course c.in-Some.node granted c.args.epoch trying c.self.invariant.are))
+    let trying = subst (IsAt c.self.inside.rules c.self.inside.tries.items c.self.inside.refinement granted) c.in-Some.is c.self.invariant.at in
+    (trying.rest, c.join.ensures.going trying.rest (can_join c.self.inside.rules c.self.inside.tries.items c.self.inside.refinement c.in-Some.node granted c.args.epoch trying c.self.invariant.are))
 
 pub invariant_of-self-2 : goal.invariant_of-self-2
 invariant_of-self-2 c =
@@ -152,7 +152,7 @@ invariant_of-self-2 c =
     let tries = c.self.inside.tries.items in
     let node = c.in-Some.node in
     let granted = length c.self.inside.locks.locked in
-    let trying = subst (IsAt rules tries c.self.inside.course granted) c.in-Some.is c.self.invariant.at in
+    let trying = subst (IsAt rules tries c.self.inside.refinement granted) c.in-Some.is c.self.invariant.at in
     let arcs : c.outgoing-patches.result.now ≡ outgoing rules.mesh.index.fields node = c.outgoing-patches.ensures ∙ ap (λ (m : MeshLists). outgoing m.index.fields node) c.mesh.ensures.value in
     let tries_are = noted rules tries c.push_reserved.new.self.items node granted c.count.result c.args.epoch c.outgoing-patches.result.now c.push_reserved.ensures.items arcs c.count.ensures in
     let many : length c.add.new.self.locked ≡ granted + 1 = ap length c.add.ensures.locked ∙ length_push c.self.inside.locks.locked (get_or c.outgoing-patches.result.now c.count.result 0) in
@@ -160,9 +160,9 @@ invariant_of-self-2 c =
     let now = c.keep.new.self.locked in
     record {
       are = c.self.invariant.are;
-      at = subst (λ (ts : List Try). IsAt rules ts c.go_on-self-inside-2.new.course (length now) c.go_on-self-inside-2.result) (sym tries_are)
-          (after_join rules tries c.self.inside.course node granted c.args.epoch trying c.self.invariant.are c.join.new.self c.go_on-self-inside-2.new.course (length now) c.go_on-self-inside-2.result (ap length c.keep.ensures.locked) (sym c.is_granted.ensures ∙ c.if-not-is_granted.false) all
-          c.join.ensures.set c.join.ensures.going c.go_on-self-inside-2.ensures.front c.go_on-self-inside-2.ensures.next);
+      at = subst (λ (ts : List Try). IsAt rules ts c.go_on-self-inside-2.new.refinement (length now) c.go_on-self-inside-2.result) (sym tries_are)
+          (after_join rules tries c.self.inside.refinement node granted c.args.epoch trying c.self.invariant.are c.join.new.self c.go_on-self-inside-2.new.refinement (length now) c.go_on-self-inside-2.result (ap length c.keep.ensures.locked) (sym c.is_granted.ensures ∙ c.if-not-is_granted.false) all
+          c.join.ensures.set c.join.ensures.going c.go_on-self-inside-2.ensures.growing c.go_on-self-inside-2.ensures.next);
       room = omega (arith, c.self.invariant.room, c.push_reserved.ensures.capacity);
       are_lists = c.go_on-self-inside-2.ensures.lists;
       are_first = first_none rules now c.go_on-self-inside-2.result c.keep.ensures.locked;
@@ -175,9 +175,9 @@ returns c = λ patch asks.
     let tries = c.self.inside.tries.items in
     let node = c.in-Some.node in
     let granted = length c.self.inside.locks.locked in
-    let trying = subst (IsAt rules tries c.self.inside.course granted) c.in-Some.is c.self.invariant.at in
+    let trying = subst (IsAt rules tries c.self.inside.refinement granted) c.in-Some.is c.self.invariant.at in
     let arcs : c.outgoing-patches.result.now ≡ outgoing rules.mesh.index.fields node = c.outgoing-patches.ensures ∙ ap (λ (m : MeshLists). outgoing m.index.fields node) c.mesh.ensures.value in
     let tries_are = noted rules tries c.push_reserved.new.self.items node granted c.count.result c.args.epoch c.outgoing-patches.result.now c.push_reserved.ensures.items arcs c.count.ensures in
     ap (λ (ts : List Try). seen_as rules ts c.keep.new.self.owed) tries_are
     ∙ ap (seen_as rules (tries ++ try_of (get_or (outgoing rules.mesh.index.fields node) granted 0) c.args.epoch ∷ [])) (c.keep.ensures.owed ∙ c.add.ensures.owed)
-    ∙ told_granted rules tries c.self.inside.locks.owed c.self.inside.course c.args.self.now c.self.view_is patch asks node granted trying c.args.epoch (sym c.is_granted.ensures ∙ c.if-not-is_granted.false)
+    ∙ told_granted rules tries c.self.inside.locks.owed c.self.inside.refinement c.args.self.now c.self.view_is patch asks node granted trying c.args.epoch (sym c.is_granted.ensures ∙ c.if-not-is_granted.false)

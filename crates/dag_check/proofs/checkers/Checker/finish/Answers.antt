@@ -6,22 +6,22 @@ use Rattle.mesh_model.specs.Meshes.{IsMesh}
 use Rattle.mesh_model.specs.Frames.{triangles_in_all}
 use Rattle.mesh_model.specs.Nets.{HasOpenPairs}
 use Rattle.dag_check.specs.Added.{file_with}
-use Rattle.dag_check.specs.Tallies.{tally_of}
+use Rattle.dag_check.specs.AllNodeSums.{all_sums_of}
 use Rattle.dag_check.specs.Checkers.{CheckerSeen, Follows}
-use Rattle.dag_check.specs.MeshView.{MeshSeen}
-use Rattle.dag_check.proofs.MeshLaws.{mesh_is}
+use Rattle.accepted_mesh.specs.MeshView.{MeshSeen}
+use Rattle.accepted_mesh.specs.MeshLaws.{mesh_is}
 use Rattle.dag_check.proofs.FinishLaws.{Decided, verdict_err, verdict_ok, finish_err, finish_ok, base_pairs}
 use Rattle.dag_check.proofs.checkers.Checker.finish.Goals as goal
 
 pub returns-in_err-root-clause-verdict : goal.returns-in_err-root-clause-verdict
 returns-in_err-root-clause-verdict c = λ bodies h.
-    let seen : CheckerSeen = record { index = c.self.inside.index; graph = c.self.inside.graph; next = c.self.inside.next; base = c.self.inside.base; tally = tally_of c.self.inside.tally } in
+    let seen : CheckerSeen = record { index = c.self.inside.index; graph = c.self.inside.graph; next = c.self.inside.next; base = c.self.inside.base; all_sums = all_sums_of c.self.inside.all_sums } in
     let p = err_from_is_err_and c.from_residual.result c.from_residual.ensures.1 in
     rw (p.1, p.2) (subst (λ (s : CheckerSeen). IsMeshFault (file_with s.index bodies) c.in_err-root.field-0.0) c.self.view_is (verdict_err seen _ bodies c.self.invariant (sym c.verdict.ensures ∙ c.in_err-root.was)))
 
 pub returns-in_err-border-clause-verdict : goal.returns-in_err-border-clause-verdict
 returns-in_err-border-clause-verdict c = λ bodies h.
-    let seen : CheckerSeen = record { index = c.self.inside.index; graph = c.self.inside.graph; next = c.self.inside.next; base = c.self.inside.base; tally = tally_of c.self.inside.tally } in
+    let seen : CheckerSeen = record { index = c.self.inside.index; graph = c.self.inside.graph; next = c.self.inside.next; base = c.self.inside.base; all_sums = all_sums_of c.self.inside.all_sums } in
     let same : seen ≡ c.args.self = c.self.view_is in
     let decided : Decided seen c.in_ok-root.root = record { is_checker = c.self.invariant; verdict = sym c.verdict.ensures ∙ c.in_ok-root.was; all = subst (λ (s : CheckerSeen). s.next ≡ length s.index.fields) (sym same) c.requires } in
     let p = err_from_is_err_and c.from_residual-in_err-border.result c.from_residual-in_err-border.ensures.1 in
@@ -30,7 +30,7 @@ returns-in_err-border-clause-verdict c = λ bodies h.
 
 pub returns-clause-verdict : goal.returns-clause-verdict
 returns-clause-verdict c = λ bodies h.
-    let seen : CheckerSeen = record { index = c.self.inside.index; graph = c.self.inside.graph; next = c.self.inside.next; base = c.self.inside.base; tally = tally_of c.self.inside.tally } in
+    let seen : CheckerSeen = record { index = c.self.inside.index; graph = c.self.inside.graph; next = c.self.inside.next; base = c.self.inside.base; all_sums = all_sums_of c.self.inside.all_sums } in
     let same : seen ≡ c.args.self = c.self.view_is in
     let decided : Decided seen c.in_ok-root.root = record { is_checker = c.self.invariant; verdict = sym c.verdict.ensures ∙ c.in_ok-root.was; all = subst (λ (s : CheckerSeen). s.next ≡ length s.index.fields) (sym same) c.requires } in
     subst (λ (m : MeshSeen). IsAccepted (file_with c.args.self.index bodies) m.lists.root) (sym c.with.ensures)
@@ -39,14 +39,14 @@ returns-clause-verdict c = λ bodies h.
 
 pub returns-clause-facts : goal.returns-clause-facts
 returns-clause-facts c =
-    let seen : CheckerSeen = record { index = c.self.inside.index; graph = c.self.inside.graph; next = c.self.inside.next; base = c.self.inside.base; tally = tally_of c.self.inside.tally } in
+    let seen : CheckerSeen = record { index = c.self.inside.index; graph = c.self.inside.graph; next = c.self.inside.next; base = c.self.inside.base; all_sums = all_sums_of c.self.inside.all_sums } in
     subst (λ (m : MeshSeen). IsMesh m.lists) (sym c.with.ensures)
     (mesh_is c.self.inside.index c.self.inside.graph c.in_ok-root.root (triangles_in_all c.self.inside.index.fields)
     (record { rules = c.self.invariant.rules; graph = c.self.invariant.graph; nested = verdict_ok seen c.in_ok-root.root c.self.invariant (sym c.verdict.ensures ∙ c.in_ok-root.was); sum = refl }))
 
 pub returns-clause-base : goal.returns-clause-base
 returns-clause-base c = λ bodies h.
-    let seen : CheckerSeen = record { index = c.self.inside.index; graph = c.self.inside.graph; next = c.self.inside.next; base = c.self.inside.base; tally = tally_of c.self.inside.tally } in
+    let seen : CheckerSeen = record { index = c.self.inside.index; graph = c.self.inside.graph; next = c.self.inside.next; base = c.self.inside.base; all_sums = all_sums_of c.self.inside.all_sums } in
     let same : seen ≡ c.args.self = c.self.view_is in
     let decided : Decided seen c.in_ok-root.root = record { is_checker = c.self.invariant; verdict = sym c.verdict.ensures ∙ c.in_ok-root.was; all = subst (λ (s : CheckerSeen). s.next ≡ length s.index.fields) (sym same) c.requires } in
     subst (λ (m : MeshSeen). HasOpenPairs (triangles_out_of (file_with c.args.self.index bodies) m.lists.root) m.base_open) (sym c.with.ensures)

@@ -1,13 +1,13 @@
--- The tally's pairs are those of the open nodes.
+-- The pairs of all sums are those of the open nodes.
 use Rattle.std.proofs.Common.{List, subst}
 use Rattle.file_model.specs.Lists.{BodyLists}
 use Rattle.dag_check.specs.Open.{KeepsPairs}
-use Rattle.dag_check.specs.Tallies.{tally_of}
+use Rattle.dag_check.specs.AllNodeSums.{all_sums_of}
 use Rattle.dag_check.specs.Checkers.{CheckerSeen, Follows}
 use Rattle.dag_check.proofs.KeptLaws.{keeps}
 use Rattle.dag_check.proofs.checkers.Checker.kept_pairs.Goals as goal
 
 pub returns : goal.returns
 returns c =
-    subst (λ (s : CheckerSeen). (bodies : List BodyLists) → Follows s bodies → KeepsPairs s.index s.next bodies c.self.inside.tally.kept_pairs) c.self.view_is
-    (λ bodies h. keeps c.self.inside.index c.self.inside.next bodies (tally_of c.self.inside.tally) c.self.invariant.tally h.tally)
+    subst (λ (s : CheckerSeen). (bodies : List BodyLists) → Follows s bodies → KeepsPairs s.index s.next bodies c.self.inside.all_sums.kept_pairs) c.self.view_is
+    (λ bodies h. keeps c.self.inside.index c.self.inside.next bodies (all_sums_of c.self.inside.all_sums) c.self.invariant.all_sums h.all_sums)

@@ -1,4 +1,4 @@
--- Room is made for three edges that differ, so that each side finds the old sum; then the total is the net.
+-- Room is made for three edges that differ, so that each directed edge finds the old sum; then the total is the net.
 use Rattle.std.proofs.Common.{arith, ◌+◌, ◌∙◌, ap, subst}
 use Rattle.edge_chain.specs.Chains.{Chain, Adds}
 use Rattle.edge_chain.specs.NetLaws.{IsNetOf-add}

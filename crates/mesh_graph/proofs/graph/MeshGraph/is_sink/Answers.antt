@@ -1,5 +1,5 @@
 use Rattle.std.proofs.Common.{◌∙◌, ap}
-use Rattle.mesh_graph.specs.Arcs.{is_bare_at}
+use Rattle.mesh_graph.specs.Adjacency.{is_bare_at}
 use Rattle.mesh_graph.specs.Graphs.{GraphSeen}
 use Rattle.mesh_graph.proofs.VerdictLaws.{seen_sink}
 use Rattle.mesh_graph.proofs.graph.MeshGraph.is_sink.Goals as goal

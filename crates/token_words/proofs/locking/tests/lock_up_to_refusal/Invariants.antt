@@ -1,7 +1,7 @@
 use Rattle.std.proofs.Common.{◌≡◌, true, take}
 use Rattle.token_words.specs.Batches.{Gains}
 use Rattle.std.specs.List.{list_all}
-use Rattle.token_words.specs.Epochs.{is_odd}
+use Rattle.file_model.specs.Tries.{is_odd}
 use Rattle.token_words.specs.Changes.{Stays, ChangesOnly}
 use Rattle.token_words.proofs.locking.tests.lock_up_to_refusal.Given as goal
 
