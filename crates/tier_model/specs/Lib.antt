@@ -17,3 +17,6 @@ pub mod TopmostLaws
 pub mod Chosen
 pub mod Follows
 pub mod TurnLaws
+pub mod TieLaws
+pub mod SingleTurns
+pub mod SingleLaws
