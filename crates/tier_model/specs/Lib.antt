@@ -20,3 +20,5 @@ pub mod TurnLaws
 pub mod TieLaws
 pub mod SingleTurns
 pub mod SingleLaws
+pub mod OpeningLaws
+pub mod ChainLaws
