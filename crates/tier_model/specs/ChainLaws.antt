@@ -72,9 +72,9 @@ pub tied_turned : (board : Board) (k : ℕ) (answer : Turn) (a b : Chain) (pinne
 unfolding is_top
 tied_turned board zero answer a b pinned tiers turn tied = record {
   top = λ t at.
-    subst (λ (s : TierState). IsTied s b.epochs pinned) (same_Some turn.after t (sym (tier_here board zero answer a b turn) ∙ at))
-    (tied-again turn.after (epochs_after answer a.epochs) b.epochs pinned pinned (epochs_move board answer a b turn) (λ p. refl)
-    (tied-turned board (told_at a zero) turn.before answer turn.after pinned (tiers.each zero turn.before turn.was) refl turn.turns (tied.top turn.before turn.was)));
+      subst (λ (s : TierState). IsTied s b.epochs pinned) (same_Some turn.after t (sym (tier_here board zero answer a b turn) ∙ at))
+      (tied-again turn.after (epochs_after answer a.epochs) b.epochs pinned pinned (epochs_move board answer a b turn) (λ p. refl)
+      (tied-turned board (told_at a zero) turn.before answer turn.after pinned (tiers.each zero turn.before turn.was) refl turn.turns (tied.top turn.before turn.was)));
 }
 tied_turned board (suc k) answer a b pinned tiers turn tied = record {
   top = λ t at. tied-again t a.epochs b.epochs pinned pinned (epochs_stay board k answer a b turn) (λ p. refl) (tied.top t (sym (others_stay board (suc k) answer a b turn zero (λ same. absurd (cc))) ∙ at));

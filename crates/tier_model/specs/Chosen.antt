@@ -6,9 +6,9 @@ use Rattle.token_words.specs.declared.keeping.TheConstants.{LAST_EPOCH}
 use Rattle.tier_model.specs.Places.{is_marked, is_coming}
 use Rattle.tier_model.specs.Tiers.{TierState, count, size, kept_wish, is_held, pinned_bytes}
 use Rattle.tier_model.specs.Ranks.{outranks, IsRanking}
-use Rattle.tier_model.specs.Choices.{topmost, Chooses, Told, is_missing, is_admissible, candidate, may_leave, victim}
+use Rattle.tier_model.specs.Choices.{topmost, Chooses, ChoosesBy, OrAnswers, Told, is_missing, is_admissible, candidate, may_leave, victim}
 use Rattle.tier_model.specs.RankLaws.{outranks_is_ranking, turned_is_ranking}
-use Rattle.tier_model.specs.TopmostLaws.{topmost-is, topmost-chooses}
+use Rattle.tier_model.specs.TopmostLaws.{topmost-is, topmost-chooses, chooses-by_answers, or_answers-is}
 
 -- ---- the patches that may come
 
@@ -73,6 +73,12 @@ is_eligible told s p = is_missing s p && is_admissible told s p
 pub candidate-is : (told : Told) (s : TierState) (o : Option ℕ) → Chooses (count s) (λ p. is_missing s p && is_admissible told s p) (outranks (kept_wish s)) o → o ≡ candidate told s
 unfolding candidate
 candidate-is told s o chooses = topmost-is (count s) (is_eligible told s) (outranks (kept_wish s)) o (outranks_is_ranking (kept_wish s)) chooses
+
+-- a choice by a test's answers is the candidate, where each answer tells whether the patch is admissible
+pub candidate-by_answers : (told : Told) (s : TierState) (answers : ℕ → Bool → Type 0) (o : Option ℕ) → ((p : ℕ) (answer : Bool) → p < count s → answers p answer → is_admissible told s p ≡ answer) → ChoosesBy (count s) (λ p answer. OrAnswers (is_missing s p) (answers p) answer) (outranks (kept_wish s)) o → o ≡ candidate told s
+candidate-by_answers told s answers o tells chooses =
+    candidate-is told s o (chooses-by_answers (count s) (is_eligible told s) (λ p answer. OrAnswers (is_missing s p) (answers p) answer) (outranks (kept_wish s)) o
+    (λ p answer within answered. or_answers-is (is_missing s p) (is_admissible told s p) (answers p) answer (λ b h. tells p b within h) answered) chooses)
 
 candidate_from : (told : Told) (s : TierState) (o : Option ℕ) (p : ℕ) → Chooses (count s) (is_eligible told s) (outranks (kept_wish s)) o → o ≡ Some p → IsCandidate told s p
 candidate_from told s None p chooses is = absurd (cc)

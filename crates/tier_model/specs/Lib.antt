@@ -3,6 +3,7 @@ pub mod Tiers
 pub mod Changes
 pub mod Ranks
 pub mod Choices
+pub mod Answers
 pub mod Turns
 pub mod Ties
 pub mod Counts
@@ -22,3 +23,4 @@ pub mod SingleTurns
 pub mod SingleLaws
 pub mod OpeningLaws
 pub mod ChainLaws
+pub mod TierLoads

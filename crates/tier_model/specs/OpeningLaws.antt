@@ -38,7 +38,7 @@ IsTier-fresh index budget width wide =
     let as_many : length (sizes_of index) ≡ n = length-map index.fields (body_size index.version) in
     let none : marks_of {X = SeenBody} (replicate n None) ≡ replicate n false = marks_of_nothing SeenBody n in
     let empty : load_of (sizes_of index) (record { held = marks_of {X = SeenBody} (replicate n None); coming = [] }) ≡ 0 =
-      load_of_held (sizes_of index) (marks_of {X = SeenBody} (replicate n None)) ∙ ap (marked_bytes (sizes_of index)) none ∙ marked_none (sizes_of index) n in
+    load_of_held (sizes_of index) (marks_of {X = SeenBody} (replicate n None)) ∙ ap (marked_bytes (sizes_of index)) none ∙ marked_none (sizes_of index) n in
     record {
       wide = wide;
       sized = record {
@@ -108,7 +108,7 @@ IsTier-with_pin s body tier first away bytes room =
       held_bodies = each-set (IsBodyFor s.sizes) s.held p (Some body) tier.held_bodies (λ b is. subst (IsBodyFor s.sizes p) (same_Some body b is) (record { patch = refl; size = bytes }));
       came_bodies = tier.came_bodies;
       replays = subst (λ (journal : List Turn). Replays s.budget s.width s.sizes pins journal (places (with_pin s body))) (sym first)
-        (subst (Replays s.budget s.width s.sizes pins []) (sym same) Begins);
+          (subst (Replays s.budget s.width s.sizes pins []) (sym same) Begins);
     }
 
 pub file-with_pin : (body : ℕ → SeenBody) (s : TierState) (b : SeenBody) → b ≡ body b.patch → IsOfFile body s → IsOfFile body (with_pin s b)

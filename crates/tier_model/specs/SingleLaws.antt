@@ -38,15 +38,15 @@ single-by_coming told s o (c ∷ []) single few is =
     let none = ap (reserve_or told s o) (entering_one told s c single is) in
     elim (cases_Bool c.has_body) [
       | inl has ↦
-        none
-        ∙ ap (fetch_or told s o) (ap first_bare is ∙ cond-true c.has_body None (Some c.patch) has)
-        ∙ ap (commit_or told s o) (ap first_coming is)
-        ∙ sym (ap (single_commit_or told s o) (ap first_full is ∙ cond-true c.has_body (Some c.patch) None has))
+          none
+          ∙ ap (fetch_or told s o) (ap first_bare is ∙ cond-true c.has_body None (Some c.patch) has)
+          ∙ ap (commit_or told s o) (ap first_coming is)
+          ∙ sym (ap (single_commit_or told s o) (ap first_full is ∙ cond-true c.has_body (Some c.patch) None has))
       | inr hasnt ↦
-        none
-        ∙ ap (fetch_or told s o) (ap first_bare is ∙ cond-false c.has_body None (Some c.patch) hasnt)
-        ∙ sym (ap (single_fetch_or told s o) (ap first_bare is ∙ cond-false c.has_body None (Some c.patch) hasnt))
-        ∙ sym (ap (single_commit_or told s o) (ap first_full is ∙ cond-false c.has_body (Some c.patch) None hasnt))
+          none
+          ∙ ap (fetch_or told s o) (ap first_bare is ∙ cond-false c.has_body None (Some c.patch) hasnt)
+          ∙ sym (ap (single_fetch_or told s o) (ap first_bare is ∙ cond-false c.has_body None (Some c.patch) hasnt))
+          ∙ sym (ap (single_commit_or told s o) (ap first_full is ∙ cond-false c.has_body (Some c.patch) None hasnt))
     ]
 single-by_coming told s o (c ∷ d ∷ cs) single few is = absurd (omega arith)
 

@@ -93,14 +93,14 @@ tied-committed s p epochs pinned tier bare first tied =
     record {
       held = λ q inside. elim (cases_eq q p) [
         | inl same ↦ subst (λ (n : ℕ). is_odd (risen p epochs n) ≡ is_some (slice_index_or (slice_set s.held p body) n None)) (sym same)
-          (ap is_odd (risen_here p epochs) ∙ odd_next (epochs p) ∙ ap not (tied.held p within ∙ away)
-          ∙ sym there ∙ sym (ap (λ o. is_some o) (get_or-set_same s.held p body None (let sized = tier.sized.held in omega arith))))
+            (ap is_odd (risen_here p epochs) ∙ odd_next (epochs p) ∙ ap not (tied.held p within ∙ away)
+            ∙ sym there ∙ sym (ap (λ o. is_some o) (get_or-set_same s.held p body None (let sized = tier.sized.held in omega arith))))
         | inr ne ↦ ap is_odd (risen_other p epochs q ne) ∙ tied.held q inside ∙ sym (ap (λ o. is_some o) (get_or-set_other s.held p q body None ne))
       ];
       pins = tied.pins;
       low = λ q still. subst (λ (n : ℕ). n < LAST_EPOCH)
-      (sym (risen_other p epochs q (λ same. both_ways (is_coming (without p s.coming) q) (subst (λ (n : ℕ). is_coming (without p s.coming) n ≡ false) (sym same) (gone_comes p s.coming)) still)))
-      (tied.low q (gone_came p s.coming q still));
+          (sym (risen_other p epochs q (λ same. both_ways (is_coming (without p s.coming) q) (subst (λ (n : ℕ). is_coming (without p s.coming) n ≡ false) (sym same) (gone_comes p s.coming)) still)))
+          (tied.low q (gone_came p s.coming q still));
     }
 
 tied-dropped : (s : TierState) (v : ℕ) (epochs : ℕ → ℕ) (pinned : ℕ → Bool) → IsTier s → s.coming ≡ [] → v < count s → is_held s v ≡ true → IsTied s epochs pinned → IsTied (dropped s v) (risen v epochs) pinned
@@ -108,8 +108,8 @@ unfolding dropped
 tied-dropped s v epochs pinned tier none within held tied = record {
   held = λ q inside. elim (cases_eq q v) [
     | inl same ↦ subst (λ (n : ℕ). is_odd (risen v epochs n) ≡ is_some (slice_index_or (slice_set s.held v None) n None)) (sym same)
-      (ap is_odd (risen_here v epochs) ∙ odd_next (epochs v) ∙ ap not (tied.held v within ∙ held)
-      ∙ sym (ap (λ o. is_some o) (get_or-set_same s.held v None None (let sized = tier.sized.held in omega arith))))
+        (ap is_odd (risen_here v epochs) ∙ odd_next (epochs v) ∙ ap not (tied.held v within ∙ held)
+        ∙ sym (ap (λ o. is_some o) (get_or-set_same s.held v None None (let sized = tier.sized.held in omega arith))))
     | inr ne ↦ ap is_odd (risen_other v epochs q ne) ∙ tied.held q inside ∙ sym (ap (λ o. is_some o) (get_or-set_other s.held v q None None ne))
   ];
   pins = tied.pins;
@@ -194,11 +194,11 @@ base_count s p = marked_count s.base p
 pub counted-turned : (board : Board) (told : Told) (s : TierState) (answer : Turn) (after : TierState) → IsTurn board told s answer after → AreCounted s told.epochs → AreCounted after (epochs_after answer told.epochs)
 counted-turned board told s answer after is counted = record {
   counted = λ p.
-    let before = counted.counted p in
-    let risen = epochs_count answer told.epochs p in
-    let journal = ap (λ (ts : List Turn). commits_and_evicts ts p) (journal-turned board told s answer after is) in
-    let longer = commits-append s.journal (entries_of answer) p in
-    let entry = commits_of_entry answer p in
-    let base : base_count after p ≡ base_count s p = ap (λ (marks : List Bool). marked_count marks p) (setup-turned board told s answer after is).base in
-    omega arith;
+      let before = counted.counted p in
+      let risen = epochs_count answer told.epochs p in
+      let journal = ap (λ (ts : List Turn). commits_and_evicts ts p) (journal-turned board told s answer after is) in
+      let longer = commits-append s.journal (entries_of answer) p in
+      let entry = commits_of_entry answer p in
+      let base : base_count after p ≡ base_count s p = ap (λ (marks : List Bool). marked_count marks p) (setup-turned board told s answer after is).base in
+      omega arith;
 }

@@ -13,7 +13,8 @@ use Rattle.tier_model.specs.Places.{is_coming}
 use Rattle.tier_model.specs.Tiers.{TierState, count, kept_wish, body_at, IsBodyFor, IsTier, IsOfFile}
 use Rattle.tier_model.specs.Changes.{reserved, arrived, abort_entry, aborted, committed, dropped, passed_over, calmed, renewed, ranked}
 use Rattle.tier_model.specs.Choices.{Told}
-use Rattle.tier_model.specs.Turns.{Outcome, Board, begun, paired, turn_of, outcome_in, IsRankedTurn, IsTurn, IfGot, BringsBody}
+use Rattle.tier_model.specs.Answers.{IfGot}
+use Rattle.tier_model.specs.Turns.{Outcome, Board, begun, paired, turn_of, outcome_in, IsRankedTurn, IsTurn, BringsBody}
 use Rattle.tier_model.specs.Counts.{entries_of}
 use Rattle.tier_model.specs.ComingLaws.{bare_comes}
 use Rattle.tier_model.specs.BodyLaws.{each-set, there_is_marked, there_is_body, not_there_is_away, away_is_unmarked}
@@ -260,5 +261,5 @@ wishes-turned board told s answer after keeps is =
     let places = begun_places board s in
     record {
       wishes = λ same p within. ap (λ (wishes : List ℕ). slice_index wishes p) alike.wishes
-      ∙ begun_wishes board s keeps p (subst (λ (n : ℕ). p < n) (ap (λ (sizes : List ℕ). length sizes) (alike.sizes ∙ places.sizes)) within);
+          ∙ begun_wishes board s keeps p (subst (λ (n : ℕ). p < n) (ap (λ (sizes : List ℕ). length sizes) (alike.sizes ∙ places.sizes)) within);
     }

@@ -11,7 +11,8 @@ ghost use Rattle.tier_model.specs.Tiers.{TierState, size, load, places, body_at,
 ghost use Rattle.tier_model.specs.Changes.{reserved, arrived, aborted, committed, dropped, passed_over, calmed, renewed, ranked, fresh, with_pin};
 ghost use Rattle.tier_model.specs.Ranks.{outranks, IsRanking};
 ghost use Rattle.tier_model.specs.Choices.{topmost, Chooses, Told};
-ghost use Rattle.tier_model.specs.Turns.{Outcome, Board, ranked_turn_of, IsTurn, IfGot, BringsBody};
+ghost use Rattle.tier_model.specs.Answers.{IfGot};
+ghost use Rattle.tier_model.specs.Turns.{Outcome, Board, ranked_turn_of, IsTurn, BringsBody};
 ghost use Rattle.tier_model.specs.Ties.{epochs_after, IsTied};
 ghost use Rattle.tier_model.specs.Counts.{entries_of, AreCounted};
 ghost use Rattle.tier_model.specs.Chains.{Chain, opened_top, opened};

@@ -9,7 +9,8 @@ mod laws;
 mod turns;
 
 pub use laws::{
-    a_change_leaves_a_tier, a_tier_begins, a_turn_follows_one_rule, a_turn_keeps_the_tie, a_turn_leaves_a_tier,
-    one_patch_comes_at_a_time, settling_leaves_tiers, the_top_tier_opens, the_topmost_is_one,
+    a_change_leaves_a_tier, a_tier_begins, a_turn_follows_one_rule, a_turn_keeps_the_tie,
+    a_turn_leaves_a_tier, one_patch_comes_at_a_time, settling_leaves_tiers, the_top_tier_opens,
+    the_topmost_is_one,
 };
-pub use turns::{Abort, Coming, Turn};
+pub use turns::{Abort, Coming, MOST_WIDTH, Turn};
