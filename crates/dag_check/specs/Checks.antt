@@ -5,6 +5,7 @@ use Rattle.file_model.specs.declared.refusals.ReadRefusal.{ReadRefusal}
 use Rattle.file_model.specs.Answers.{Refuses}
 use Rattle.file_model.specs.Lists.{BodyLists, IndexLists, FileLists, bodies_offset}
 use Rattle.file_model.specs.Reading.{bodies_in, file_in}
+use Rattle.file_model.specs.Rules.{IsPatchFile}
 use Rattle.mesh_model.specs.declared.refusals.Refusal.TheVariants.{File, Dag}
 use Rattle.mesh_model.specs.Accepted.{IsAccepted, IsMeshFault, triangles_out_of}
 use Rattle.mesh_model.specs.Meshes.{IsMesh}
@@ -36,9 +37,9 @@ pub record IsMeshOf (file : FileLists) (mesh : MeshSeen) : Type 0 where
   pub facts : IsMesh mesh.lists
   pub base : HasOpenPairs (triangles_out_of file mesh.lists.root) mesh.base_open
 
--- what a check answers for a file of these bytes
+-- what a check answers for a file of these bytes: where it gives a mesh, they are the patch file that it is of
 abbrev pub Checks : List ℕ → Result MeshSeen CheckRefusal → Type 0
-Checks bytes (Ok mesh) = (file : FileLists) × (file_in bytes ≡ Ok file) × IsMeshOf file mesh
+Checks bytes (Ok mesh) = (file : FileLists) × (file_in bytes ≡ Ok file) × IsMeshOf file mesh × IsPatchFile file bytes
 Checks bytes (Err (Refused (File fault))) = file_in bytes ≡ Err fault
 Checks bytes (Err (Refused (Dag fault))) = (file : FileLists) × (file_in bytes ≡ Ok file) × IsMeshFault file fault
 Checks bytes (Err ReadFault) = Unit {0}

@@ -6,3 +6,5 @@ pub mod Points
 pub mod Bodies
 pub mod Indexes
 pub mod Files
+pub mod Appended
+pub mod Growing
