@@ -1,0 +1,5 @@
+pub mod Stages
+pub mod Underway
+pub mod WeightLaws
+pub mod ChangeLaws
+pub mod FewTurns
