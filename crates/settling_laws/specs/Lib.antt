@@ -3,3 +3,4 @@ pub mod Underway
 pub mod WeightLaws
 pub mod ChangeLaws
 pub mod FewTurns
+pub mod Midway
