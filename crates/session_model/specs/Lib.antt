@@ -1,0 +1,9 @@
+pub mod Locks
+pub mod Sessions
+pub mod Steps
+pub mod Arcs
+pub mod Tested
+pub mod Asks
+pub mod Passed
+pub mod Resting
+pub mod Refinings

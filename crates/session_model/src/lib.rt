@@ -1,0 +1,9 @@
+//! Sessions: a view, a round of tries, locks of patches, and the steps that a session takes.
+//!
+//! Code is only the record of a step and the laws' names, on functions that do nothing. The definitions
+//! stand in `specs/`, and `docs/MODEL.md` tells them in prose.
+#![tactic(auto)]
+
+mod steps;
+
+pub use steps::Stepped;
