@@ -7,3 +7,7 @@ pub mod Asks
 pub mod Passed
 pub mod Resting
 pub mod Refinings
+pub mod Counts
+pub mod SessionStates
+pub mod Does
+pub mod StepLaws

@@ -161,6 +161,11 @@ module _ (r : Refining) (refining : IsRefining r) (p : ℕ) (asks : pending_ask 
   never_granted : was_granted r.tries p ≡ false
   never_granted = false_from_ne_true (was_granted r.tries p) (λ is. let tried = granted_was_tried r.tries p is in let never = never_tried in absurd (cc))
 
+  -- the patch that is asked for isn't locked
+  pub asked_is_free : round_locks r p ≡ false
+  unfolding locked_by
+  asked_is_free = rw never_granted refl
+
   -- ---- what is held before
 
   -- what was tried leads from a node that the round is past, or is of the node in hand
