@@ -90,10 +90,10 @@ is_untried s p = not (was_tried (tries_of s) p)
 unfoldable pub steps_left : SessionState → ℕ
 steps_left s = 2 * count_below (length s.leftover) (is_untried s) + count_below (length s.leftover) (uses s)
 
-pub left_like : (s t : SessionState) → IsLike s t → steps_left t ≡ steps_left s
+left_like : (s t : SessionState) → IsLike s t → tries_of t ≡ tries_of s → steps_left t ≡ steps_left s
 unfolding steps_left
-left_like s t like =
-    let untried = same_count (length s.leftover) (is_untried s) (is_untried t) (λ q. ap (λ (ts : List Try). not (was_tried ts q)) like.tries) in
+left_like s t like tries =
+    let untried = same_count (length s.leftover) (is_untried s) (is_untried t) (λ q. ap (λ (ts : List Try). not (was_tried ts q)) tries) in
     let used = same_count (length s.leftover) (uses s) (uses t) (like_uses s t like) in
     rw like.many (omega (arith, untried, used))
 
@@ -129,11 +129,11 @@ pub record IsStep (mesh : MeshLists) (s : SessionState) (result : SessionStep) :
   pub tries : tries_of result.state ≡ tries_of s ++ tries_in result.did
   pub lowers : (result.did ≡ Done) ⊎ (steps_left result.state < steps_left s)
 
-pub step_like : (mesh : MeshLists) (s t : SessionState) (result : SessionStep) → IsLike s t → IsStep mesh t result → IsStep mesh s result
-step_like mesh s t result like is = record {
+pub step_like : (mesh : MeshLists) (s t : SessionState) (result : SessionStep) → IsLike s t → tries_of t ≡ tries_of s → IsStep mesh t result → IsStep mesh s result
+step_like mesh s t result like tries is = record {
   does = does_like s t result.state result.did like is.does;
   keeps = is.keeps;
   view = is.view ∙ like.view;
-  tries = is.tries ∙ ap (λ (ts : List Try). ts ++ tries_in result.did) like.tries;
-  lowers = elim is.lowers [ inl done ↦ inl done | inr less ↦ inr (subst (λ (n : ℕ). steps_left result.state < n) (left_like s t like) less) ];
+  tries = is.tries ∙ ap (λ (ts : List Try). ts ++ tries_in result.did) tries;
+  lowers = elim is.lowers [ inl done ↦ inl done | inr less ↦ inr (subst (λ (n : ℕ). steps_left result.state < n) (left_like s t like tries) less) ];
 }

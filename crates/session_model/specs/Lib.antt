@@ -11,3 +11,4 @@ pub mod Counts
 pub mod SessionStates
 pub mod Does
 pub mod StepLaws
+pub mod FreeLaws

@@ -42,25 +42,15 @@ unprinted_round s = cond s.printed None s.round
 abbrev pub tries_of : SessionState → List Try
 tries_of s = option_map_or (λ (r : Refining). r.tries) (unprinted_round s) []
 
--- the second session has the view, the locks, the refused try and the tries of the first
+-- the second session has the view, the locks and the refused try of the first
 pub record IsLike (s t : SessionState) : Type 0 where
   pub view : t.view ≡ s.view
   pub many : length t.leftover ≡ length s.leftover
   pub locks_are : (p : ℕ) → locks t p ≡ locks s p
   pub flight : t.flight ≡ s.flight
-  pub tries : tries_of t ≡ tries_of s
 
 pub like_itself : (s : SessionState) → IsLike s s
-like_itself s = record { view = refl; many = refl; locks_are = λ p. refl; flight = refl; tries = refl }
-
-pub like_then : (s t u : SessionState) → IsLike s t → IsLike t u → IsLike s u
-like_then s t u first second = record {
-  view = second.view ∙ first.view;
-  many = second.many ∙ first.many;
-  locks_are = λ p. second.locks_are p ∙ first.locks_are p;
-  flight = second.flight ∙ first.flight;
-  tries = second.tries ∙ first.tries;
-}
+like_itself s = record { view = refl; many = refl; locks_are = λ p. refl; flight = refl }
 
 pub like_uses : (s t : SessionState) → IsLike s t → (p : ℕ) → uses t p ≡ uses s p
 like_uses s t like p = ap (λ (b : Bool). b || is_in_flight t.flight p) (like.locks_are p) ∙ ap (λ (o : Option ℕ). locks s p || is_in_flight o p) like.flight
@@ -128,15 +118,9 @@ ended_is mesh s is = record {
     record { within = subst (λ (n : ℕ). p < n) (sym (ended_many s)) refused.within; free = ended_locks mesh s is p ∙ refused.free };
 }
 
-pub ended_like : (mesh : MeshLists) (s : SessionState) → IsSessionState mesh s → unprinted_round s ≡ None → IsLike s (round_ended s)
+pub ended_like : (mesh : MeshLists) (s : SessionState) → IsSessionState mesh s → IsLike s (round_ended s)
 unfolding round_ended
-ended_like mesh s is none = record {
-  view = refl;
-  many = ended_many s;
-  locks_are = ended_locks mesh s is;
-  flight = refl;
-  tries = sym (ap (λ (o : Option Refining). option_map_or (λ (r : Refining). r.tries) o []) none);
-}
+ended_like mesh s is = record { view = refl; many = ended_many s; locks_are = ended_locks mesh s is; flight = refl }
 
 pub settled_is : (mesh : MeshLists) (s : SessionState) → IsSessionState mesh s → IsSessionState mesh (settled s)
 unfolding settled
@@ -144,8 +128,13 @@ settled_is mesh s is = cond_both s.printed (round_ended s) s (IsSessionState mes
 
 pub settled_like : (mesh : MeshLists) (s : SessionState) → IsSessionState mesh s → IsLike s (settled s)
 unfolding settled
-settled_like mesh s is =
-    cond_both s.printed (round_ended s) s (IsLike s) (λ printed. ended_like mesh s is (ap (λ (t : Bool). cond t None s.round) printed)) (λ going. like_itself s)
+settled_like mesh s is = cond_both s.printed (round_ended s) s (IsLike s) (λ printed. ended_like mesh s is) (λ going. like_itself s)
+
+pub settled_tries : (s : SessionState) → tries_of (settled s) ≡ tries_of s
+unfolding settled round_ended
+settled_tries s =
+    cond_both s.printed (round_ended s) s (λ (t : SessionState). tries_of t ≡ tries_of s)
+    (λ printed. sym (ap (λ (t : Bool). option_map_or (λ (r : Refining). r.tries) (cond t None s.round) []) printed)) (λ going. refl)
 
 -- a settled session's round isn't printed
 pub settled_going : (s : SessionState) → (settled s).printed ≡ false

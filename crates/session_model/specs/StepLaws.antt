@@ -23,7 +23,7 @@ use Rattle.session_model.specs.Tested.{tried_one_more}
 use Rattle.session_model.specs.Refinings.{IsRefining, never_tried, asked_is_free, answer_locks, answer_refining, asked_within, owed_is_locked, release_locks, release_refining, locked_within, begun_refining, begun_locks}
 use Rattle.session_model.specs.Sessions.{SessionState, is_left_over, locks, is_in_flight, uses, least_old, settled, without_flight, without_old}
 use Rattle.session_model.specs.Steps.{SessionStep, stepped, begun_round, round_or_begun, with_round, after_try, answer_ask, go_on, unlock_or, withdraw_or, step}
-use Rattle.session_model.specs.SessionStates.{IsRunning, IsRefused, IsSessionState, unprinted_round, tries_of, IsLike, like_itself, like_then, rules_mesh, running_mesh, settled_is, settled_like, settled_going}
+use Rattle.session_model.specs.SessionStates.{IsRunning, IsRefused, IsSessionState, unprinted_round, tries_of, IsLike, rules_mesh, running_mesh, settled_is, settled_like, settled_tries, settled_going}
 use Rattle.session_model.specs.Does.{Does, less_by_use, less_by_try, IsStep, step_like}
 
 or_false : (t : Bool) → (t || false) ≡ t
@@ -50,11 +50,11 @@ pub record IsLeast (flags : List Bool) (p : ℕ) : Type 0 where
 least_there : (flags : List Bool) (p : ℕ) → position (λ (old : Bool). old) flags ≡ Some p → IsLeast flags p
 least_there flags p is = let parts = position-Some (λ (old : Bool). old) flags p false is in record { within = parts.0; there = parts.1 }
 
-none_old_in : (s : SessionState) → least_old s ≡ None → (p : ℕ) → is_left_over s p ≡ false
+pub none_old_in : (s : SessionState) → least_old s ≡ None → (p : ℕ) → is_left_over s p ≡ false
 unfolding least_old
 none_old_in s none p = none_old s.leftover none p
 
-some_old_in : (s : SessionState) (p : ℕ) → least_old s ≡ Some p → IsLeast s.leftover p
+pub some_old_in : (s : SessionState) (p : ℕ) → least_old s ≡ Some p → IsLeast s.leftover p
 unfolding least_old
 some_old_in s p is = least_there s.leftover p is
 
@@ -269,13 +269,17 @@ module _ (mesh : MeshLists) (accepted : IsMesh mesh) (s : SessionState) (is : Is
       many = refl;
       locks_are = λ q. ap (λ (t : Bool). is_left_over s q || t) (begun_locks (view_rules view mesh) q) ∙ ap (λ (o : Option Refining). is_left_over s q || option_map_or (λ (t : Refining). round_locks t q) o false) (sym no_round);
       flight = refl;
-      tries = ap (λ (printed : Bool). option_map_or (λ (t : Refining). t.tries) (cond printed None (Some (begun_round mesh view))) []) going ∙ sym (ap (λ (printed : Bool). option_map_or (λ (t : Refining). t.tries) (cond printed None s.round) []) going ∙ ap (λ (o : Option Refining). option_map_or (λ (t : Refining). t.tries) o []) no_round);
     }
+
+    begun_tries : tries_of begun ≡ tries_of s
+    begun_tries =
+        ap (λ (printed : Bool). option_map_or (λ (t : Refining). t.tries) (cond printed None (Some (begun_round mesh view))) []) going
+        ∙ sym (ap (λ (printed : Bool). option_map_or (λ (t : Refining). t.tries) (cond printed None s.round) []) going ∙ ap (λ (o : Option Refining). option_map_or (λ (t : Refining). t.tries) o []) no_round)
 
     pub begun_step : (epoch : ℕ) → IsStep mesh s (go_on s epoch (Some (begun_round mesh view)))
     begun_step epoch =
         subst (IsStep mesh s) (same_ask s (begun_round mesh view) epoch (pending_ask (begun_round mesh view)))
-        (step_like mesh s begun (go_on begun epoch (Some (begun_round mesh view))) begun_like
+        (step_like mesh s begun (go_on begun epoch (Some (begun_round mesh view))) begun_like begun_tries
         (asked_step mesh begun begun_is (begun_round mesh view) refl no_flight going epoch))
 
   idle : IsStep mesh s (stepped Done s)
@@ -319,8 +323,8 @@ module _ (mesh : MeshLists) (accepted : IsMesh mesh) (s : SessionState) (is : Is
     old_is_held : locks s p ≡ true
     old_is_held = locks_of_old p ∙ old.there
 
-    is_unlocked : IsStep mesh s (stepped (Unlocked p) unlocked)
-    is_unlocked = record {
+    pub unlocked_step : IsStep mesh s (stepped (Unlocked p) unlocked)
+    unlocked_step = record {
       does = record { within = old.within; held = old_is_held; locked = unlocked_locks; used = unlocked_uses };
       keeps = record {
         many = length-set s.leftover p false ∙ is.many;
@@ -333,7 +337,7 @@ module _ (mesh : MeshLists) (accepted : IsMesh mesh) (s : SessionState) (is : Is
     }
 
   by_old : (epoch : ℕ) (old : Option ℕ) → least_old s ≡ old → IsStep mesh s (unlock_or mesh s epoch old)
-  by_old epoch (Some p) e = is_unlocked p (some_old_in s p e)
+  by_old epoch (Some p) e = unlocked_step p (some_old_in s p e)
   by_old epoch None e = by_round epoch s.round s.view refl refl (none_old_in s e)
 
   pub unlock_step : (epoch : ℕ) → IsStep mesh s (unlock_or mesh s epoch (least_old s))
@@ -374,7 +378,7 @@ by_flight : (mesh : MeshLists) → IsMesh mesh → (s : SessionState) → IsSess
 by_flight mesh accepted s is epoch (Some p) there = withdraw_step mesh s is p there
 by_flight mesh accepted s is epoch None none =
     let like = settled_like mesh s is in
-    step_like mesh s (settled s) (withdraw_or mesh s epoch None) like (unlock_step mesh accepted (settled s) (settled_is mesh s is) (like.flight ∙ none) (settled_going s) epoch)
+    step_like mesh s (settled s) (withdraw_or mesh s epoch None) like (settled_tries s) (unlock_step mesh accepted (settled s) (settled_is mesh s is) (like.flight ∙ none) (settled_going s) epoch)
 
 pub step_is : (mesh : MeshLists) → IsMesh mesh → (s : SessionState) → IsSessionState mesh s → (epoch : ℕ) → IsStep mesh s (step mesh s epoch)
 unfolding step
