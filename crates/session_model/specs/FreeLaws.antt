@@ -7,13 +7,13 @@ use Rattle.mesh_model.specs.Meshes.{MeshLists, IsMesh}
 use Rattle.round_model.specs.Refiners.{Refining}
 use Rattle.token_words.specs.Changes.{SetAt}
 use Rattle.session_model.specs.declared.steps.Stepped.{Stepped}
-use Rattle.session_model.specs.declared.steps.Stepped.TheVariants.{Unlocked, Withdrew}
+use Rattle.session_model.specs.declared.steps.Stepped.TheVariants.{Unlocked, Tried, Withdrew, GaveBack, Done}
 use Rattle.session_model.specs.Locks.{round_locks}
 use Rattle.session_model.specs.Sessions.{SessionState, is_left_over, locks, is_in_flight, uses, least_old, round_ended, without_flight, without_old}
 use Rattle.session_model.specs.Steps.{SessionStep, stepped, FreeStep, freed, free_old, free_or, free_step}
 use Rattle.session_model.specs.Counts.{count_below, same_count, count_falls}
 use Rattle.session_model.specs.SessionStates.{IsSessionState, IsLike, like_uses, ended_is, ended_like, ended_many}
-use Rattle.session_model.specs.Does.{Does, DoesNothing, does_like, IsStep}
+use Rattle.session_model.specs.Does.{DoesUnlock, DoesWithdraw, DoesNothing, does_like, IsStep}
 use Rattle.session_model.specs.StepLaws.{IsLeast, none_old_in, some_old_in, unlocked_step, withdraw_step}
 
 -- how many patches are used
@@ -27,7 +27,11 @@ pub record WasFree (s t : SessionState) : Type 0 where
 
 -- what the answer of a step towards no use says of the locks and the uses
 abbrev pub DoesFree : SessionState → Option Stepped → SessionState → Type 0
-DoesFree s (Some did) t = Does s did t
+DoesFree s (Some (Unlocked p)) t = DoesUnlock s p t
+DoesFree s (Some (Withdrew p)) t = DoesWithdraw s p t
+DoesFree s (Some (Tried p epoch)) t = ⊥
+DoesFree s (Some (GaveBack p)) t = ⊥
+DoesFree s (Some Done) t = ⊥
 DoesFree s None t = WasFree s t
 
 -- a use ended, or there was none
