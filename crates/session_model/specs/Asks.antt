@@ -1,6 +1,6 @@
 -- What a round asks for, and where it stands then.
 use Rattle.std.proofs.Common.{◌≡◌, ℕ, List, [], ◌∷◌, Option, Some, None, refl, ap}
-use Rattle.round_model.specs.declared.asks.Ask.TheVariants.{Lock, GiveBack, Done}
+use Rattle.round_model.specs.declared.asks.Ask.TheVariants.{Lock, GiveBack}
 use Rattle.round_model.specs.Rounds.{NodeInProgress}
 use Rattle.round_model.specs.Refiners.{Refining, round_state, next_try, next_ask, pending_ask}
 

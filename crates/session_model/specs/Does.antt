@@ -1,6 +1,5 @@
 -- How each step changes the locks and the uses of a session, and by how much less is left to do.
-use Rattle.std.proofs.Common.{◌≡◌, ◌≢◌, ℕ, ◌+◌, ◌*◌, ◌<◌, ◌⊎◌, Bool, true, false, not, ◌||◌, eqb, List, [], ◌∷◌, ◌++◌, length, map, refl, sym, ap, subst, ◌∙◌, arith, inl, inr}
-use Rattle.std.proofs.lemmas.List.{map-append}
+use Rattle.std.proofs.Common.{◌≡◌, ◌≢◌, ℕ, ◌+◌, ◌*◌, ◌<◌, ◌⊎◌, Bool, true, false, not, List, [], ◌∷◌, ◌++◌, length, sym, ap, subst, ◌∙◌, arith, inl, inr}
 use Rattle.file_model.specs.declared.fields.Try.{Try}
 use Rattle.file_model.specs.Tries.{is_odd}
 use Rattle.mesh_model.specs.Meshes.{MeshLists}
@@ -10,7 +9,7 @@ use Rattle.session_model.specs.declared.steps.Stepped.{Stepped}
 use Rattle.session_model.specs.declared.steps.Stepped.TheVariants.{Unlocked, Tried, Withdrew, GaveBack, Done}
 use Rattle.session_model.specs.Locks.{was_tried}
 use Rattle.session_model.specs.Sessions.{SessionState, locks, uses}
-use Rattle.session_model.specs.Steps.{SessionStep, try_pairs}
+use Rattle.session_model.specs.Steps.{SessionStep}
 use Rattle.session_model.specs.Counts.{count_below, same_count, count_falls}
 use Rattle.session_model.specs.SessionStates.{IsSessionState, tries_of, IsLike, like_uses}
 

@@ -1,14 +1,14 @@
 -- After a step that was done the session has a round that is done.
-use Rattle.std.proofs.Common.{◌≡◌, ℕ, Bool, true, false, List, Option, Some, None, refl, sym, ap, subst, ◌∙◌}
+use Rattle.std.proofs.Common.{◌≡◌, ℕ, false, Option, Some, None, refl, sym, ap, subst, ◌∙◌}
 use Rattle.std.specs.Option.{option_or, option_map}
 use Rattle.mesh_model.specs.Meshes.{MeshLists}
 use Rattle.round_model.specs.declared.asks.Ask.{Ask}
 use Rattle.round_model.specs.declared.asks.Ask.TheVariants.{Lock, GiveBack, Done as NothingAsked}
 use Rattle.round_model.specs.Views.{ViewSeen}
 use Rattle.round_model.specs.Refiners.{Refining, pending_ask}
-use Rattle.session_model.specs.declared.steps.Stepped.TheVariants.{Unlocked, Tried, Withdrew, GaveBack, Done}
+use Rattle.session_model.specs.declared.steps.Stepped.TheVariants.{Done}
 use Rattle.session_model.specs.Sessions.{SessionState, least_old, settled}
-use Rattle.session_model.specs.Steps.{SessionStep, begun_round, round_or_begun, answer_ask, go_on, unlock_or, withdraw_or, step}
+use Rattle.session_model.specs.Steps.{begun_round, answer_ask, go_on, unlock_or, withdraw_or, step}
 use Rattle.session_model.specs.SessionStates.{IsSessionState, settled_like, settled_going}
 
 -- the session's round is done, and wasn't printed yet; no refused try is in flight

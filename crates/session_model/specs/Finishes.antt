@@ -1,5 +1,5 @@
 -- Steps until a round is done.
-use Rattle.std.proofs.Common.{◌≡◌, ℕ, Bool, true, false, cond, List, [], ◌∷◌, ◌++◌, map, Option, Some, None, refl, sym, ap, subst, ◌∙◌, append_assoc, append-nil}
+use Rattle.std.proofs.Common.{◌≡◌, ℕ, Bool, true, cond, List, [], ◌++◌, map, Option, Some, None, refl, sym, ap, subst, ◌∙◌, append_assoc, append-nil}
 use Rattle.std.specs.Option.{option_map_or}
 use Rattle.std.proofs.lemmas.List.{map-append}
 use Rattle.file_model.specs.declared.fields.Try.{Try}
@@ -52,11 +52,11 @@ one_step mesh accepted s t u tries did epoch before same =
       is = one.keeps;
       view = one.view ∙ before.view;
       tries_are =
-        ap pairs_of one.tries
-        ∙ map-append (λ (x : Try). (x.patch, x.epoch)) (tries_of t) (tries_in did)
-        ∙ ap (λ (xs : List (ℕ × ℕ)). xs ++ pairs_of (tries_in did)) before.tries_are
-        ∙ ap (λ (xs : List (ℕ × ℕ)). (pairs_of (tries_of s) ++ tries) ++ xs) (tries_are did)
-        ∙ append_assoc (pairs_of (tries_of s)) tries (try_pairs did);
+          ap pairs_of one.tries
+          ∙ map-append (λ (x : Try). (x.patch, x.epoch)) (tries_of t) (tries_in did)
+          ∙ ap (λ (xs : List (ℕ × ℕ)). xs ++ pairs_of (tries_in did)) before.tries_are
+          ∙ ap (λ (xs : List (ℕ × ℕ)). (pairs_of (tries_of s) ++ tries) ++ xs) (tries_are did)
+          ∙ append_assoc (pairs_of (tries_of s)) tries (try_pairs did);
     }
 
 pub after_steps : (mesh : MeshLists) → IsMesh mesh → (told : Bool) (epochs : ℕ → ℕ) (s : SessionState) → IsSessionState mesh s → (tries : List (ℕ × ℕ)) (t : SessionState) → Steps mesh told epochs s tries t → IsAfterSteps mesh s tries t
@@ -85,3 +85,9 @@ finished mesh accepted told epochs s is view viewed tries t finishes =
     round_tries u has =
         ap (λ (printed : Bool). pairs_of (option_map_or (λ (r : Refining). r.tries) (cond printed None u.round) [])) has.going
         ∙ ap (λ (o : Option Refining). pairs_of (option_map_or (λ (r : Refining). r.tries) o [])) has.there
+
+-- where no round went on before, these are the tries that were made
+pub finished_tries : (mesh : MeshLists) → IsMesh mesh → (told : Bool) (epochs : ℕ → ℕ) (s : SessionState) → IsSessionState mesh s → unprinted_round s ≡ None → (view : ViewSeen) → s.view ≡ Some view → (tries : List (ℕ × ℕ)) (t : SessionState) → Finishes mesh told epochs s tries t → (has : HasDone t) × (pairs_of has.round.tries ≡ tries)
+finished_tries mesh accepted told epochs s is none view viewed tries t finishes =
+    let after = finished mesh accepted told epochs s is view viewed tries t finishes in
+    (after.done, after.tries_are ∙ ap (λ (o : Option Refining). pairs_of (option_map_or (λ (r : Refining). r.tries) o []) ++ tries) none)

@@ -1,5 +1,5 @@
 -- A step towards no use ends a use, or there was none.
-use Rattle.std.proofs.Common.{◌≡◌, ◌≢◌, ℕ, ◌+◌, ◌<◌, ◌⊎◌, Bool, true, false, ◌||◌, eqb, List, length, Option, Some, None, refl, sym, ap, subst, ◌∙◌, arith, inl, inr}
+use Rattle.std.proofs.Common.{◌≡◌, ℕ, ◌<◌, true, false, ◌||◌, length, Option, Some, None, refl, sym, ap, ◌∙◌, arith}
 use Rattle.std.specs.Option.{option_map_or}
 use Rattle.std.proofs.lemmas.Bool.{or_left}
 use Rattle.std.proofs.lemmas.List.{length-set}
@@ -10,11 +10,11 @@ use Rattle.session_model.specs.declared.steps.Stepped.{Stepped}
 use Rattle.session_model.specs.declared.steps.Stepped.TheVariants.{Unlocked, Tried, Withdrew, GaveBack, Done}
 use Rattle.session_model.specs.Locks.{round_locks}
 use Rattle.session_model.specs.Sessions.{SessionState, is_left_over, locks, is_in_flight, uses, least_old, round_ended, without_flight, without_old}
-use Rattle.session_model.specs.Steps.{SessionStep, stepped, FreeStep, freed, free_old, free_or, free_step}
-use Rattle.session_model.specs.Counts.{count_below, same_count, count_falls}
+use Rattle.session_model.specs.Steps.{FreeStep, free_old, free_or, free_step}
+use Rattle.session_model.specs.Counts.{count_below, count_falls}
 use Rattle.session_model.specs.SessionStates.{IsSessionState, IsLike, like_uses, ended_is, ended_like, ended_many}
-use Rattle.session_model.specs.Does.{DoesUnlock, DoesWithdraw, DoesNothing, does_like, IsStep}
-use Rattle.session_model.specs.StepLaws.{IsLeast, none_old_in, some_old_in, unlocked_step, withdraw_step}
+use Rattle.session_model.specs.Does.{DoesUnlock, DoesWithdraw, DoesNothing, does_like}
+use Rattle.session_model.specs.StepLaws.{none_old_in, some_old_in, unlocked_step, withdraw_step}
 
 -- how many patches are used
 unfoldable pub uses_left : SessionState → ℕ

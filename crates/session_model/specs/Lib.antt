@@ -12,7 +12,7 @@ pub mod SessionStates
 pub mod Does
 pub mod StepLaws
 pub mod FreeLaws
-pub mod FrameLocks
 pub mod NextStates
 pub mod DoneRounds
+pub mod FrameLocks
 pub mod Finishes

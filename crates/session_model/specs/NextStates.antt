@@ -1,6 +1,5 @@
 -- What an event leaves of a session: it is one over the mesh, and what is locked was locked or has an odd epoch.
-use Rattle.std.proofs.Common.{◌≡◌, ◌≢◌, ℕ, ◌⊎◌, Bool, true, false, List, Option, Some, None, refl, sym, ap, subst, ◌∙◌, inl, inr}
-use Rattle.std.specs.Option.{option_or, option_map}
+use Rattle.std.proofs.Common.{◌≡◌, ℕ, ◌⊎◌, true, false, Option, Some, None, refl, sym, ap, ◌∙◌, inl, inr}
 use Rattle.std.proofs.lemmas.Bool.{cases_eq}
 use Rattle.file_model.specs.Tries.{is_odd}
 use Rattle.mesh_model.specs.Meshes.{MeshLists, IsMesh}
@@ -12,9 +11,9 @@ use Rattle.token_words.specs.Changes.{SetAt}
 use Rattle.session_model.specs.declared.steps.Stepped.{Stepped}
 use Rattle.session_model.specs.declared.steps.Stepped.TheVariants.{Unlocked, Tried, Withdrew, GaveBack, Done}
 use Rattle.session_model.specs.Sessions.{SessionState, locks, least_old, settled, with_view, printed_once}
-use Rattle.session_model.specs.Steps.{SessionStep, begun_round, round_or_begun, after_try, answer_ask, go_on, unlock_or, withdraw_or, step, epoch_for, IsOfEpochs, step_by, free_step}
-use Rattle.session_model.specs.SessionStates.{IsSessionState, settled_like, settled_going, viewed_is, viewed_locks, printed_is, printed_locks}
-use Rattle.session_model.specs.Does.{Does, IsStep}
+use Rattle.session_model.specs.Steps.{round_or_begun, answer_ask, go_on, unlock_or, withdraw_or, step, epoch_for, IsOfEpochs, step_by, free_step}
+use Rattle.session_model.specs.SessionStates.{IsSessionState, viewed_is, viewed_locks, printed_is, printed_locks}
+use Rattle.session_model.specs.Does.{Does}
 use Rattle.session_model.specs.StepLaws.{step_is}
 use Rattle.session_model.specs.FreeLaws.{DoesFree, free_step_is}
 

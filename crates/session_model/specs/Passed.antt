@@ -1,20 +1,18 @@
 -- What a round has gone through: whose patches it tried, and that each node of its set had all of its patches
 -- granted.
-use Rattle.std.proofs.Common.{◌≡◌, ℕ, zero, suc, ◌<◌, ◌⊎◌, Bool, true, false, ◌||◌, cond, eqb, List, [], ◌∷◌, ◌++◌, length, replicate, Option, Some, None, refl, sym, ap, subst, ◌∙◌, append_assoc, append-nil, inl, inr}
-use Rattle.std.specs.Prelude.{slice_get}
+use Rattle.std.proofs.Common.{◌≡◌, ℕ, ◌⊎◌, Bool, true, false, List, [], ◌∷◌, ◌++◌, length, replicate, Option, Some, None, refl, sym, subst, ◌∙◌, append_assoc, append-nil, inl, inr}
 use Rattle.std.specs.List.{AllByRecursion}
-use Rattle.std.proofs.lemmas.Bool.{cond_both, cases_Bool, or_cases, or_left, or_right, eqb-true, eq-eqb, false_from_ne_true}
+use Rattle.std.proofs.lemmas.Bool.{cond_both, or_cases, or_left, or_right}
 use Rattle.file_model.specs.declared.fields.PatchField.{PatchField}
 use Rattle.file_model.specs.declared.fields.Try.{Try}
 use Rattle.file_model.specs.Tries.{is_odd}
 use Rattle.mesh_model.specs.Graph.{outgoing}
-use Rattle.mesh_model.specs.Accepted.{is_inner}
 use Rattle.round_model.specs.Order.{Rules, node_order}
 use Rattle.round_model.specs.Tries.{Verdict, Granted, Refused, OpenAt, Tried, tried_patches}
 use Rattle.round_model.specs.Rounds.{NodeInProgress, RoundState, has, with_member, is_tried, after_verdict, after_tries, round_from, root_set, round_of, patches_of}
 use Rattle.round_laws.specs.Members.{had_or_is, empty_has_none}
 use Rattle.round_laws.specs.Among.{is_among, among_both, middle_among}
-use Rattle.round_laws.specs.Answers.{IsOpenAt, tried_open}
+use Rattle.round_laws.specs.Answers.{tried_open}
 use Rattle.session_model.specs.Locks.{was_tried, was_granted}
 use Rattle.session_model.specs.Arcs.{is_from, among_outgoing}
 use Rattle.session_model.specs.Tested.{tried_both, granted_both, tried_among, among_was_granted}

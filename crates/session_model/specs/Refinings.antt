@@ -1,15 +1,15 @@
 -- A round under way: no patch is tried twice, and each answer and each lock that is given back changes what is
 -- locked as it says.
-use Rattle.std.proofs.Common.{◌≡◌, ◌≢◌, ℕ, ◌<◌, ◌⊎◌, Bool, true, false, not, ◌&&◌, ◌||◌, cond, eqb, List, [], ◌∷◌, ◌++◌, length, Option, Some, None, refl, sym, ap, subst, ◌∙◌, inl, inr}
+use Rattle.std.proofs.Common.{◌≡◌, ℕ, ◌<◌, ◌⊎◌, Bool, true, false, not, ◌&&◌, ◌||◌, cond, eqb, List, [], ◌∷◌, ◌++◌, length, Option, Some, None, refl, sym, ap, subst, ◌∙◌, inl, inr}
 use Rattle.std.specs.Prelude.{slice_get}
 use Rattle.std.specs.List.{AllByRecursion, list_any}
 use Rattle.std.specs.Option.{option_map_or}
-use Rattle.std.proofs.lemmas.Bool.{cond-true, cond-false, cases_Bool, cases_eq, or_cases, or_left, or_right, or_parts, and_parts, not-true, eqb-true, eq-eqb, ne_eqb, false_from_ne_true}
+use Rattle.std.proofs.lemmas.Bool.{cond-true, cond-false, cases_Bool, or_cases, or_left, or_right, or_parts, and_parts, not-true, eq-eqb, ne_eqb, false_from_ne_true}
 use Rattle.std.proofs.lemmas.List.{map-append}
 use Rattle.file_model.specs.declared.fields.PatchField.{PatchField}
 use Rattle.file_model.specs.declared.fields.Try.{Try}
 use Rattle.file_model.specs.Tries.{is_odd}
-use Rattle.mesh_model.specs.Graph.{leads_to, leads_from, is_root, is_sink, outgoing}
+use Rattle.mesh_model.specs.Graph.{leads_to, leads_from, is_root, is_sink}
 use Rattle.mesh_model.specs.Frames.{leads_out}
 use Rattle.mesh_model.specs.Accepted.{is_inner}
 use Rattle.mesh_model.specs.Meshes.{IsMesh}
@@ -29,9 +29,9 @@ use Rattle.round_laws.specs.Steps.{after_refusal, after_last_grant, after_grant}
 use Rattle.token_words.specs.Changes.{SetAt}
 use Rattle.session_model.specs.Locks.{was_tried, was_granted, is_in_progress, is_held, leads_from_held, locked_by, round_locks}
 use Rattle.session_model.specs.Asks.{AsksToLock, asks_to_lock, AsksBack, asks_back}
-use Rattle.session_model.specs.Arcs.{is_from, is_from_tail, from_within, among_outgoing, from_tail, IsPassing, passing_at, one_tail, AreApart, front_among, outgoing_apart, not_in_front, not_behind, front_not_behind, front_apart, same_front}
-use Rattle.session_model.specs.Tested.{tried_both, among_patches, granted_was_tried, all_were_granted, granted_both, tried_one_more, granted_other, granted_here}
-use Rattle.session_model.specs.Passed.{WentThrough, IsInHand, IsPlacedAt, round_placed}
+use Rattle.session_model.specs.Arcs.{is_from, is_from_tail, from_within, among_outgoing, from_tail, passing_at, one_tail, AreApart, front_among, outgoing_apart, not_in_front, not_behind, front_not_behind, front_apart, same_front}
+use Rattle.session_model.specs.Tested.{tried_both, among_patches, granted_was_tried, all_were_granted, granted_both, granted_other, granted_here}
+use Rattle.session_model.specs.Passed.{IsInHand, IsPlacedAt, round_placed}
 use Rattle.session_model.specs.Resting.{IsFresh, IsResting, rests}
 
 -- the patch was granted, and its node missed
@@ -133,9 +133,9 @@ module _ (r : Refining) (refining : IsRefining r) (p : ℕ) (asks : pending_ask 
 
   node_outside : has stand.set node ≡ false
   node_outside = false_from_ne_true (has stand.set node) (λ is. elim (placed.went.members node is) [
-      | inl root ↦ inner_not_root r.rules refining.mesh node node_inner.inner root
-      | inr there ↦ absurd (let apart = (past_apart node there).0 in let same = eq-eqb node node refl in cc)
-    ])
+    | inl root ↦ inner_not_root r.rules refining.mesh node node_inner.inner root
+    | inr there ↦ absurd (let apart = (past_apart node there).0 in let same = eq-eqb node node refl in cc)
+  ])
 
   -- a patch that was tried
   tries_are : (q : ℕ) → was_tried r.tries q ≡ (was_tried placed.earlier q || was_tried lock.hand.granted q)
@@ -193,9 +193,9 @@ module _ (r : Refining) (refining : IsRefining r) (p : ℕ) (asks : pending_ask 
   locks_after epoch owed now others here = record {
     here = ap (λ (t : Bool). t && (is_among owed p || leads_from_held fields now p)) (granted_here r.tries p epoch never_granted) ∙ and_if (is_odd epoch) (is_among owed p || leads_from_held fields now p) here;
     others = λ q apart.
-      ap (λ (t : Bool). t && (is_among owed q || leads_from_held fields now q)) (granted_other r.tries p epoch q apart)
-      ∙ same_where (was_granted r.tries q) (is_among owed q || leads_from_held fields now q) (leads_from_held fields stand q) (others q)
-      ∙ sym (ap (λ (ps : List ℕ). was_granted r.tries q && (is_among ps q || leads_from_held fields stand q)) lock.owed);
+        ap (λ (t : Bool). t && (is_among owed q || leads_from_held fields now q)) (granted_other r.tries p epoch q apart)
+        ∙ same_where (was_granted r.tries q) (is_among owed q || leads_from_held fields now q) (leads_from_held fields stand q) (others q)
+        ∙ sym (ap (λ (ps : List ℕ). was_granted r.tries q && (is_among ps q || leads_from_held fields stand q)) lock.owed);
   }
 
   -- the node in hand that follows is a later one
@@ -233,11 +233,11 @@ module _ (r : Refining) (refining : IsRefining r) (p : ℕ) (asks : pending_ask 
           tries = ap (λ (s : RoundState). s.tries) state_is ∙ tries_now;
           apart = subst AreApart (sym owes) apart;
           owed = λ q there.
-            let is = each q (subst (λ (ps : List ℕ). is_among ps q ≡ true) owes there) in
-            record {
-              granted = granted_both r.tries (try_of p epoch ∷ []) q ∙ or_left (was_granted r.tries q) (was_granted (try_of p epoch ∷ []) q) is.0;
-              outside = ap (λ (s : RoundState). leads_from_held fields s q) state_is ∙ is.1;
-            };
+              let is = each q (subst (λ (ps : List ℕ). is_among ps q ≡ true) owes there) in
+              record {
+                granted = granted_both r.tries (try_of p epoch ∷ []) q ∙ or_left (was_granted r.tries q) (was_granted (try_of p epoch ∷ []) q) is.0;
+                outside = ap (λ (s : RoundState). leads_from_held fields s q) state_is ∙ is.1;
+              };
         };
       }
 
@@ -271,9 +271,9 @@ module _ (r : Refining) (refining : IsRefining r) (p : ℕ) (asks : pending_ask 
       elim (cases_Bool (has stand.set v)) [
         | inl is ↦ still_has stand.set node v is ∙ sym is
         | inr never ↦ false_from_ne_true (has (with_member stand.set node) v) (λ is. elim (had_or_is stand.set node v is) [
-            | inl same ↦ absurd (let equal = eq-eqb node v same in cc)
-            | inr had ↦ absurd (cc)
-          ]) ∙ sym never
+          | inl same ↦ absurd (let equal = eq-eqb node v same in cc)
+          | inr had ↦ absurd (cc)
+        ]) ∙ sym never
       ]
 
   -- granted, and it was the node's last patch
@@ -393,8 +393,8 @@ module _ (r : Refining) (refining : IsRefining r) (p : ℕ) (asks : pending_ask 
   release_locks = record {
     here = released p ∙ rw (once.0, (refining.owed p owed_here).outside) (and_false (was_granted r.tries p));
     others = λ q other.
-      released q
-      ∙ ap (λ (t : Bool). was_granted r.tries q && (t || leads_from_held r.rules.mesh.index.fields (round_state r) q)) (sym (ap (λ (ps : List ℕ). is_among ps q) back.owed ∙ ap (λ (t : Bool). t || is_among back.rest q) (ne_eqb p q (λ same. other (sym same)))));
+        released q
+        ∙ ap (λ (t : Bool). was_granted r.tries q && (t || leads_from_held r.rules.mesh.index.fields (round_state r) q)) (sym (ap (λ (ps : List ℕ). is_among ps q) back.owed ∙ ap (λ (t : Bool). t || is_among back.rest q) (ne_eqb p q (λ same. other (sym same)))));
   }
     where
       and_false : (t : Bool) → (t && false) ≡ false
@@ -408,9 +408,9 @@ module _ (r : Refining) (refining : IsRefining r) (p : ℕ) (asks : pending_ask 
     tries = refining.tries;
     apart = subst AreApart (sym (back_first r.owed p back.rest back.owed)) once.1;
     owed = λ q there.
-      let before = ap (λ (ps : List ℕ). is_among ps q) back.owed ∙ or_right (eqb p q) (is_among back.rest q) (subst (λ (ps : List ℕ). is_among ps q ≡ true) (back_first r.owed p back.rest back.owed) there) in
-      let is = refining.owed q before in
-      record { granted = is.granted; outside = is.outside };
+        let before = ap (λ (ps : List ℕ). is_among ps q) back.owed ∙ or_right (eqb p q) (is_among back.rest q) (subst (λ (ps : List ℕ). is_among ps q ≡ true) (back_first r.owed p back.rest back.owed) there) in
+        let is = refining.owed q before in
+        record { granted = is.granted; outside = is.outside };
   }
 
 -- ---- what is locked

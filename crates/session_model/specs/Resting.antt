@@ -1,5 +1,5 @@
 -- Where a round stands that goes on without an answer.
-use Rattle.std.proofs.Common.{◌≡◌, ℕ, Bool, true, false, ◌||◌, cond, eqb, List, [], ◌∷◌, Option, Some, None, refl, sym, ap, subst, ◌∙◌, inl, inr}
+use Rattle.std.proofs.Common.{◌≡◌, ℕ, Bool, true, eqb, List, [], ◌∷◌, Some, refl, sym, ap, subst, ◌∙◌, inl, inr}
 use Rattle.std.specs.List.{AllByRecursion}
 use Rattle.std.proofs.lemmas.Bool.{cases_Bool, or_left, or_right, eq-eqb}
 use Rattle.file_model.specs.declared.fields.Try.{Try}
@@ -38,11 +38,11 @@ first_rests v vs set tries first node granted = record {
   set_is = refl;
   tries_are = refl;
   fresh = λ hand at.
-    let same = hand_is first hand at in
-    record {
-      node = or_left (eqb v hand.node) (is_among vs hand.node) (eq-eqb v hand.node (sym node ∙ ap (λ (h : NodeInProgress). h.node) same));
-      granted = sym (ap (λ (h : NodeInProgress). h.granted) same) ∙ granted;
-    };
+      let same = hand_is first hand at in
+      record {
+        node = or_left (eqb v hand.node) (is_among vs hand.node) (eq-eqb v hand.node (sym node ∙ ap (λ (h : NodeInProgress). h.node) same));
+        granted = sym (ap (λ (h : NodeInProgress). h.granted) same) ∙ granted;
+      };
 }
 
 pub rests : (rules : Rules) (vs : List ℕ) (set : List Bool) (tries : List Try) → AllByRecursion (IsInnerNode rules) vs → IsResting vs set tries (round_from rules vs set tries [])

@@ -1,13 +1,12 @@
 -- What holds of a session over a mesh, and of sessions that have the same locks and the same tries.
-use Rattle.std.proofs.Common.{◌≡◌, ℕ, zero, suc, ◌+◌, ◌<◌, ◌≤◌, Bool, true, false, ◌||◌, cond, eqb, List, [], ◌∷◌, ◌++◌, length, map, get_or, replicate, Option, Some, None, refl, sym, ap, subst, ◌∙◌, arith, inl, inr}
-use Rattle.std.specs.Prelude.{slice_index_or}
+use Rattle.std.proofs.Common.{◌≡◌, ℕ, ◌<◌, Bool, true, false, ◌||◌, cond, List, [], length, map, get_or, replicate, Option, Some, None, refl, sym, ap, subst, ◌∙◌, arith, inl, inr}
 use Rattle.std.specs.List.{range_with_len}
 use Rattle.std.specs.Option.{option_map_or}
-use Rattle.std.proofs.lemmas.Bool.{cond_both, cases_Bool, cases_lt, or_cases, or_left, or_right, false_from_ne_true}
+use Rattle.std.proofs.lemmas.Bool.{cond_both, cases_lt, or_cases, false_from_ne_true}
 use Rattle.std.proofs.lemmas.List.{get_or_past, get_or-replicate, length-replicate}
 use Rattle.std.proofs.lemmas.List.FromFn.{get_or-map-range_with_len, length-map-range_with_len}
 use Rattle.file_model.specs.declared.fields.Try.{Try}
-use Rattle.mesh_model.specs.Meshes.{MeshLists, IsMesh}
+use Rattle.mesh_model.specs.Meshes.{MeshLists}
 use Rattle.round_model.specs.Order.{Rules}
 use Rattle.round_model.specs.Views.{ViewSeen, rules_of, view_rules}
 use Rattle.round_model.specs.Refiners.{Refining}
@@ -114,8 +113,8 @@ ended_is mesh s is = record {
   many = ended_many s ∙ is.many;
   running = λ r there. absurd (cc);
   flight = λ p there.
-    let refused = is.flight p there in
-    record { within = subst (λ (n : ℕ). p < n) (sym (ended_many s)) refused.within; free = ended_locks mesh s is p ∙ refused.free };
+      let refused = is.flight p there in
+      record { within = subst (λ (n : ℕ). p < n) (sym (ended_many s)) refused.within; free = ended_locks mesh s is p ∙ refused.free };
 }
 
 pub ended_like : (mesh : MeshLists) (s : SessionState) → IsSessionState mesh s → IsLike s (round_ended s)
@@ -158,9 +157,9 @@ none_left_over n p =
       | inr more ↦ get_or_past (replicate n false) p false (let many = length-replicate n false in omega (arith, many))
     ]
 
-pub opened_locks : (patches p : ℕ) → locks (opened patches) p ≡ false
+pub opened_uses : (patches p : ℕ) → uses (opened patches) p ≡ false
 unfolding opened
-opened_locks patches p = ap (λ (t : Bool). t || false) (none_left_over patches p)
+opened_uses patches p = ap (λ (t : Bool). (t || false) || false) (none_left_over patches p)
 
 pub viewed_is : (mesh : MeshLists) (s : SessionState) (view : ViewSeen) → IsSessionState mesh s → IsSessionState mesh (with_view view s)
 unfolding with_view round_ended

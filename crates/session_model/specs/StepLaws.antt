@@ -1,9 +1,9 @@
 -- Each step of a session over an accepted mesh does what its answer says.
-use Rattle.std.proofs.Common.{◌≡◌, ◌≢◌, ℕ, ◌+◌, ◌<◌, ◌≤◌, Bool, true, false, ◌&&◌, ◌||◌, cond, eqb, List, [], ◌∷◌, ◌++◌, length, get_or, set, Option, Some, None, refl, sym, ap, subst, ◌∙◌, append-nil, arith, inl, inr}
-use Rattle.std.specs.Prelude.{slice_index_or, slice_set, nat_lt}
+use Rattle.std.proofs.Common.{◌≡◌, ◌≢◌, ℕ, ◌<◌, Bool, true, false, ◌||◌, cond, eqb, List, [], ◌∷◌, ◌++◌, length, get_or, Option, Some, None, refl, sym, ap, subst, ◌∙◌, append-nil, arith, inl, inr}
+use Rattle.std.specs.Prelude.{nat_lt}
 use Rattle.std.specs.List.{position, position_or_len}
 use Rattle.std.specs.Option.{option_map_or, option_or, option_map}
-use Rattle.std.proofs.lemmas.Bool.{cond-true, cond-false, cases_Bool, cases_lt, lt-ltb, le-ltb, or_cases, or_left, or_right, or_parts, eq-eqb, ne_eqb}
+use Rattle.std.proofs.lemmas.Bool.{cond-true, cond-false, cases_Bool, cases_lt, lt-ltb, or_left, or_right, eq-eqb, ne_eqb}
 use Rattle.std.proofs.lemmas.List.{get_or_past, get_or-set_same, get_or-set_other, length-set}
 use Rattle.std.proofs.lemmas.List.Sums.{fails_before_first}
 use Rattle.std.proofs.lemmas.List.Quantifiers.{position-Some}
@@ -12,19 +12,18 @@ use Rattle.file_model.specs.Tries.{is_odd}
 use Rattle.mesh_model.specs.Meshes.{MeshLists, IsMesh}
 use Rattle.round_model.specs.declared.asks.Ask.{Ask}
 use Rattle.round_model.specs.declared.asks.Ask.TheVariants.{Lock, GiveBack, Done as NothingAsked}
-use Rattle.round_model.specs.Order.{Rules}
 use Rattle.round_model.specs.Views.{ViewSeen, view_rules}
 use Rattle.round_model.specs.Refiners.{Refining, pending_ask, after_answer, after_release}
 use Rattle.round_laws.specs.Answers.{try_of}
-use Rattle.token_words.specs.Changes.{SetAt, Stays}
+use Rattle.token_words.specs.Changes.{SetAt}
 use Rattle.session_model.specs.declared.steps.Stepped.TheVariants.{Unlocked, Tried, Withdrew, GaveBack, Done}
 use Rattle.session_model.specs.Locks.{was_tried, round_locks}
 use Rattle.session_model.specs.Tested.{tried_one_more}
 use Rattle.session_model.specs.Refinings.{IsRefining, never_tried, asked_is_free, answer_locks, answer_refining, asked_within, owed_is_locked, release_locks, release_refining, locked_within, begun_refining, begun_locks}
 use Rattle.session_model.specs.Sessions.{SessionState, is_left_over, locks, is_in_flight, uses, least_old, settled, without_flight, without_old}
-use Rattle.session_model.specs.Steps.{SessionStep, stepped, begun_round, round_or_begun, with_round, after_try, answer_ask, go_on, unlock_or, withdraw_or, step}
-use Rattle.session_model.specs.SessionStates.{IsRunning, IsRefused, IsSessionState, unprinted_round, tries_of, IsLike, rules_mesh, running_mesh, settled_is, settled_like, settled_tries, settled_going}
-use Rattle.session_model.specs.Does.{Does, less_by_use, less_by_try, IsStep, step_like}
+use Rattle.session_model.specs.Steps.{stepped, begun_round, with_round, after_try, answer_ask, go_on, unlock_or, withdraw_or, step}
+use Rattle.session_model.specs.SessionStates.{IsRunning, IsRefused, IsSessionState, tries_of, IsLike, rules_mesh, running_mesh, settled_is, settled_like, settled_tries, settled_going}
+use Rattle.session_model.specs.Does.{less_by_use, less_by_try, IsStep, step_like}
 
 or_false : (t : Bool) → (t || false) ≡ t
 or_false true = refl
@@ -126,7 +125,7 @@ module _ (mesh : MeshLists) (s : SessionState) (is : IsSessionState mesh s) (r :
         | inr even ↦ or_right (locks after p) (is_in_flight after.flight p) (ap (λ (o : Option ℕ). is_in_flight o p) (flight_even even) ∙ eq-eqb p p refl)
       ];
       others = λ q apart.
-        ap (λ (t : Bool). locks after q || t) (flight_other q apart) ∙ or_false (locks after q) ∙ locked.others q apart ∙ locks_here q ∙ sym (uses_here q);
+          ap (λ (t : Bool). locks after q || t) (flight_other q apart) ∙ or_false (locks after q) ∙ locked.others q apart ∙ locks_here q ∙ sym (uses_here q);
     }
 
     tried_running : IsRunning mesh after (after_answer r p epoch)
@@ -169,7 +168,7 @@ module _ (mesh : MeshLists) (s : SessionState) (is : IsSessionState mesh s) (r :
       view = view_then;
       tries = tries_then ∙ ap (λ (ts : List Try). ts ++ try_of p epoch ∷ []) (sym tries_now);
       lowers = inr (less_by_try s after p many_then (within_mesh p (asked_within r refining p asks)) (tried_before p ∙ never_tried r refining p asks) (tried_then p ∙ or_right (was_tried r.tries p) (eqb p p) (eq-eqb p p refl))
-      (λ q apart. tried_then q ∙ ap (λ (t : Bool). was_tried r.tries q || t) (ne_eqb p q (λ same. apart (sym same))) ∙ or_false (was_tried r.tries q) ∙ sym (tried_before q)) (uses_here p ∙ asked_is_free r refining p asks) used);
+          (λ q apart. tried_then q ∙ ap (λ (t : Bool). was_tried r.tries q || t) (ne_eqb p q (λ same. apart (sym same))) ∙ or_false (was_tried r.tries q) ∙ sym (tried_before q)) (uses_here p ∙ asked_is_free r refining p asks) used);
     }
 
   module _ (p : ℕ) (asks : pending_ask r ≡ GiveBack p) where

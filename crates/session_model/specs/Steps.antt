@@ -1,5 +1,5 @@
 -- The steps of a session. Which epoch answers a try is given from outside.
-use Rattle.std.specs.Prelude.{◌≡◌, ℕ, Bool, List, [], ◌∷◌, Option, Some, None, if◌then◌else◌}
+use Rattle.std.specs.Prelude.{◌≡◌, ℕ, List, [], ◌∷◌, Option, Some, None, if◌then◌else◌}
 use Rattle.std.specs.Option.{option_or, option_map}
 use Rattle.file_model.specs.Tries.{is_odd}
 use Rattle.mesh_model.specs.Meshes.{MeshLists}

@@ -1,11 +1,11 @@
 -- What the tests of tries say of tries that follow one another, and of those of one node's patches.
-use Rattle.std.proofs.Common.{◌≡◌, ◌≢◌, ℕ, Bool, true, false, ◌&&◌, ◌||◌, cond, eqb, List, [], ◌∷◌, ◌++◌, refl, sym, ap, subst, ◌∙◌, inl, inr}
-use Rattle.std.specs.List.{AllByRecursion, list_any}
-use Rattle.std.proofs.lemmas.Bool.{cond_both, or_cases, or_left, or_right, and_parts, eqb-true, eq-eqb, ne_eqb}
+use Rattle.std.proofs.Common.{◌≡◌, ◌≢◌, ℕ, Bool, true, false, ◌&&◌, ◌||◌, eqb, List, [], ◌∷◌, ◌++◌, refl, sym, ap, ◌∙◌, inl, inr}
+use Rattle.std.specs.List.{AllByRecursion}
+use Rattle.std.proofs.lemmas.Bool.{cond_both, or_cases, or_left, or_right, and_parts, eq-eqb, ne_eqb}
 use Rattle.std.proofs.lemmas.List.Folds.{list_any-append}
 use Rattle.file_model.specs.declared.fields.Try.{Try}
 use Rattle.file_model.specs.Tries.{is_odd}
-use Rattle.round_model.specs.Tries.{Tried, Verdict, Granted, Refused, OpenAt, with_try, tried_patches}
+use Rattle.round_model.specs.Tries.{Tried, Granted, with_try, tried_patches}
 use Rattle.round_model.specs.Rounds.{patches_of}
 use Rattle.round_laws.specs.Among.{is_among}
 use Rattle.round_laws.specs.Answers.{try_of, refused_at}
@@ -77,13 +77,13 @@ tried_among (q ∷ qs) [] p h = absurd (cc)
 tried_among (q ∷ qs) (e ∷ es) p h =
     cond_both (is_odd e) (with_try (try_of q e) (tried_patches qs es)) (refused_at q e es) (λ (t : Tried). was_tried t.tries p ≡ true → is_among (q ∷ qs) p ≡ true)
     (λ odd is. elim (or_cases (eqb q p) (was_tried (tried_patches qs es).tries p) is) [
-        | inl here ↦ or_left (eqb q p) (is_among qs p) here
-        | inr there ↦ or_right (eqb q p) (is_among qs p) (tried_among qs es p there)
-      ])
+      | inl here ↦ or_left (eqb q p) (is_among qs p) here
+      | inr there ↦ or_right (eqb q p) (is_among qs p) (tried_among qs es p there)
+    ])
     (λ even is. elim (or_cases (eqb q p) false is) [
-        | inl here ↦ or_left (eqb q p) (is_among qs p) here
-        | inr there ↦ absurd (cc)
-      ]) h
+      | inl here ↦ or_left (eqb q p) (is_among qs p) here
+      | inr there ↦ absurd (cc)
+    ]) h
 
 -- where all were granted, each was
 pub among_was_granted : (ps epochs : List ℕ) (p : ℕ) → (tried_patches ps epochs).verdict ≡ Granted → is_among ps p ≡ true → was_granted (tried_patches ps epochs).tries p ≡ true
@@ -93,7 +93,7 @@ among_was_granted (q ∷ qs) [] p all h = absurd (cc)
 among_was_granted (q ∷ qs) (e ∷ es) p all h =
     cond_both (is_odd e) (with_try (try_of q e) (tried_patches qs es)) (refused_at q e es) (λ (t : Tried). t.verdict ≡ Granted → was_granted t.tries p ≡ true)
     (λ odd is. elim (or_cases (eqb q p) (is_among qs p) h) [
-        | inl here ↦ or_left (eqb q p && is_odd e) (was_granted (tried_patches qs es).tries p) (rw (here, odd) refl)
-        | inr there ↦ or_right (eqb q p && is_odd e) (was_granted (tried_patches qs es).tries p) (among_was_granted qs es p is there)
-      ])
+      | inl here ↦ or_left (eqb q p && is_odd e) (was_granted (tried_patches qs es).tries p) (rw (here, odd) refl)
+      | inr there ↦ or_right (eqb q p && is_odd e) (was_granted (tried_patches qs es).tries p) (among_was_granted qs es p is there)
+    ])
     (λ even is. absurd (cc)) all
