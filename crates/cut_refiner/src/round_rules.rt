@@ -1,7 +1,7 @@
 //! What a round keeps to.
 
 use crate::candidates::Candidate;
-use dag_check::Mesh;
+use accepted_mesh::Mesh;
 use error_metric::Want;
 use grid_vertex::NoMemory;
 use std::alloc::Global;

@@ -13,8 +13,8 @@ use Rattle.mesh_model.specs.Accepted.{IsMeshFault}
 use Rattle.dag_check.specs.declared.refusals.CheckRefusal.TheVariants.{Refused}
 use Rattle.dag_check.specs.Added.{file_with}
 use Rattle.dag_check.specs.Checkers.{CheckerSeen, Follows}
-use Rattle.dag_check.specs.Checks.{bodies_behind, FollowsBodies, FollowsFile, IsMeshOf, Checks}
-use Rattle.dag_check.specs.MeshView.{MeshSeen}
+use Rattle.dag_check.specs.Checks.{bodies_behind, FollowsBodies, FollowsFile, Checks}
+use Rattle.accepted_mesh.specs.MeshView.{MeshSeen, IsMeshOf}
 use Rattle.dag_check.specs.Refusals.{check_refusal}
 
 whole : (index : IndexLists) (bodies : List BodyLists) (bytes : List ℕ) → index_in bytes ≡ Ok index → bodies_behind index bytes ≡ Ok bodies → end_in index bytes ≡ Ok tt → file_in bytes ≡ Ok (file_with index bodies)

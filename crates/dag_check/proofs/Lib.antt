@@ -1,4 +1,3 @@
-pub mod MeshLaws
 pub mod ListLaws
 pub mod AddedLaws
 pub mod CountLaws

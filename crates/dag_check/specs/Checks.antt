@@ -6,14 +6,12 @@ use Rattle.file_model.specs.Answers.{Refuses}
 use Rattle.file_model.specs.Lists.{BodyLists, IndexLists, FileLists, bodies_offset}
 use Rattle.file_model.specs.Reading.{bodies_in, file_in}
 use Rattle.mesh_model.specs.declared.refusals.Refusal.TheVariants.{File, Dag}
-use Rattle.mesh_model.specs.Accepted.{IsAccepted, IsMeshFault, triangles_out_of}
-use Rattle.mesh_model.specs.Meshes.{IsMesh}
-use Rattle.mesh_model.specs.Nets.{HasOpenPairs}
+use Rattle.mesh_model.specs.Accepted.{IsMeshFault}
+use Rattle.accepted_mesh.specs.MeshView.{MeshSeen, IsMeshOf}
 use Rattle.dag_check.specs.declared.refusals.CheckRefusal.{CheckRefusal}
 use Rattle.dag_check.specs.declared.refusals.CheckRefusal.TheVariants.{Refused, ReadFault, Memory}
 use Rattle.dag_check.specs.Added.{file_with}
 use Rattle.dag_check.specs.Checkers.{CheckerSeen, Follows}
-use Rattle.dag_check.specs.MeshView.{MeshSeen}
 
 -- the bodies that stand behind an index
 abbrev pub bodies_behind : IndexLists → List ℕ → Result (List BodyLists) FileFault
@@ -29,13 +27,6 @@ abbrev pub FollowsFile : Result CheckerSeen ReadRefusal → Result FileLists Fil
 FollowsFile (Ok checker) read = (bodies : List BodyLists) × (read ≡ Ok (file_with checker.index bodies)) × Follows checker bodies
 FollowsFile (Err refusal) read = Refuses refusal read
 
--- the mesh is the accepted file's
-pub record IsMeshOf (file : FileLists) (mesh : MeshSeen) : Type 0 where
-  pub index : file.index ≡ mesh.lists.index
-  pub accepted : IsAccepted file mesh.lists.root
-  pub facts : IsMesh mesh.lists
-  pub base : HasOpenPairs (triangles_out_of file mesh.lists.root) mesh.base_open
-
 -- what a check answers for a file of these bytes
 abbrev pub Checks : List ℕ → Result MeshSeen CheckRefusal → Type 0
 Checks bytes (Ok mesh) = (file : FileLists) × (file_in bytes ≡ Ok file) × IsMeshOf file mesh
@@ -43,9 +34,3 @@ Checks bytes (Err (Refused (File fault))) = file_in bytes ≡ Err fault
 Checks bytes (Err (Refused (Dag fault))) = (file : FileLists) × (file_in bytes ≡ Ok file) × IsMeshFault file fault
 Checks bytes (Err ReadFault) = Unit {0}
 Checks bytes (Err Memory) = Unit {0}
-
--- the refusal is the store's failure only where the fact holds
-abbrev pub ChecksOnlyIf : Type 0 → CheckRefusal → Type 0
-ChecksOnlyIf fact (Refused refusal) = Unit {0}
-ChecksOnlyIf fact ReadFault = fact
-ChecksOnlyIf fact Memory = Unit {0}

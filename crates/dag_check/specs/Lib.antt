@@ -4,6 +4,5 @@ pub mod NodeSums
 pub mod Borders
 pub mod AllNodeSums
 pub mod Checkers
-pub mod MeshView
 pub mod Refusals
 pub mod Checks

@@ -9,15 +9,13 @@ mod borders;
 mod checkers;
 mod checks;
 mod inner;
-mod meshes;
 mod node_sums;
 mod refusals;
-mod sides;
 
+pub use accepted_mesh::Mesh;
 pub use checkers::Checker;
 pub use checks::check;
 pub use mesh_model::{DagFault, Refusal};
-pub use meshes::Mesh;
 pub use refusals::CheckRefusal;
 
 #[cfg(test)]

@@ -5,7 +5,7 @@ ghost use Rattle.mesh_model.specs.Meshes.{MeshLists, IsMesh};
 ghost use Rattle.round_laws.specs.Parents.{FallsAlong};
 ghost use Rattle.round_model.specs.Views.{rules_of};
 
-use dag_check::Mesh;
+use accepted_mesh::Mesh;
 
 /// Tells how much each node of a mesh is wanted. Along an arc into a node that isn't a sink the score
 /// doesn't rise, so a node's parents are wanted at least as much as the node.

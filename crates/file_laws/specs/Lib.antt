@@ -6,3 +6,4 @@ pub mod Points
 pub mod Bodies
 pub mod Indexes
 pub mod Files
+pub mod BodyFaults

@@ -22,8 +22,7 @@ use Rattle.round_model.specs.Refiners.{Refining, pending_ask, next_ask, next_try
 use Rattle.body_loads.specs.Loads.{AreBodiesAt}
 use Rattle.body_loads.specs.PatchLists.{chosen_below}
 use Rattle.body_loads.specs.LoadLaws.{loads_triangles}
-use Rattle.dag_check.specs.MeshView.{MeshSeen}
-use Rattle.dag_check.specs.Checks.{IsMeshOf}
+use Rattle.accepted_mesh.specs.MeshView.{MeshSeen, IsMeshOf}
 use Rattle.round_model.specs.Views.{ViewSeen}
 use Rattle.round_model.specs.Views.{rules_of}
 use Rattle.text_model.specs.ShownCuts.{ShowsCut}

@@ -19,8 +19,7 @@ use Rattle.file_model.specs.Lists.{SeenBody}
 use Rattle.frame_writer.specs.Frames.{AddsFrame, frame_of, triangles_in}
 use Rattle.body_loads.specs.Loads.{AreBodiesAt, lists_of}
 use Rattle.body_loads.specs.LoadLaws.{loads_triangles}
-use Rattle.dag_check.specs.MeshView.{MeshSeen}
-use Rattle.dag_check.specs.Checks.{IsMeshOf}
+use Rattle.accepted_mesh.specs.MeshView.{MeshSeen, IsMeshOf}
 use Rattle.text_model.specs.ShownCuts.{ShowsCut}
 use Rattle.still_texts.specs.Shown.{IsBaseText}
 

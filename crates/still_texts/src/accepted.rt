@@ -3,9 +3,9 @@
 ghost use Rattle.std.specs.Prelude.{◌≡◌, IfOk};
 ghost use Rattle.file_model.specs.Lists.{FileLists};
 ghost use Rattle.text_model.specs.AcceptedText.{IsAcceptedText};
-ghost use Rattle.dag_check.specs.Checks.{IsMeshOf};
+ghost use Rattle.accepted_mesh.specs.MeshView.{IsMeshOf};
 
-use dag_check::Mesh;
+use accepted_mesh::Mesh;
 use frame_writer::{Part, add_line};
 use grid_vertex::NoMemory;
 use std::alloc::Global;

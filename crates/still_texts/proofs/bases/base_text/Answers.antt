@@ -3,7 +3,7 @@ use Rattle.std.specs.Arc.{arc_value}
 use Rattle.std.proofs.lemmas.Result.{err_from_is_err_and}
 use Rattle.body_loads.specs.PatchLists.{chosen_below, chosen_within}
 use Rattle.mesh_model.specs.Graph.{leads_from}
-use Rattle.dag_check.specs.Checks.{IsMeshOf}
+use Rattle.accepted_mesh.specs.MeshView.{IsMeshOf}
 use Rattle.still_texts.specs.Shown.{IsBaseText}
 use Rattle.still_texts.proofs.ShownLemmas.{first_text, told_base}
 use Rattle.still_texts.proofs.GivenLemmas.{refused_load}

@@ -2,7 +2,7 @@
 use Rattle.std.proofs.Common.{map, sym, ◌∙◌}
 use Rattle.std.specs.Arc.{arc_value}
 use Rattle.std.proofs.lemmas.Result.{err_from_is_err_and}
-use Rattle.dag_check.specs.Checks.{IsMeshOf}
+use Rattle.accepted_mesh.specs.MeshView.{IsMeshOf}
 use Rattle.still_texts.specs.Full.{IsFullText}
 use Rattle.still_texts.proofs.ShownLemmas.{first_text}
 use Rattle.still_texts.proofs.FullLemmas.{IsThrough, round_patches, told_full}

@@ -1,0 +1,2 @@
+pub mod MeshView
+pub mod MeshLaws
