@@ -59,9 +59,9 @@ fn command_with_view(first: &str, name: &str, view: Option<View>) -> Option<Comm
 fn read_point(x: &str, y: &str, z: &str) -> Option<Point>
     ensures { result ≡ point_in (signed_in 2097152 x.now) (signed_in 2097152 y.now) (signed_in 2097152 z.now) }
 {
-    let x = read_signed(x, REACH)?;
-    let y = read_signed(y, REACH)?;
-    let z = read_signed(z, REACH)?;
+    let x = read_signed(x.as_bytes(), REACH)?;
+    let y = read_signed(y.as_bytes(), REACH)?;
+    let z = read_signed(z.as_bytes(), REACH)?;
     Some(Point { x, y, z })
 }
 
@@ -70,9 +70,9 @@ fn read_view(eye: Option<Point>, focal: &str, threshold: &str, limit: &str) -> O
     ensures { result ≡ view_in eye (number_in 65536 focal.now) (number_in 65536 threshold.now) (number_in 4294967295 limit.now) }
 {
     let eye = eye?;
-    let focal = read_number(focal, MOST)?;
-    let threshold = read_number(threshold, MOST)?;
-    let limit = read_number(limit, u64::from(u32::MAX))?;
+    let focal = read_number(focal.as_bytes(), MOST)?;
+    let threshold = read_number(threshold.as_bytes(), MOST)?;
+    let limit = read_number(limit.as_bytes(), u64::from(u32::MAX))?;
     View::new(eye, focal as u32, threshold as u32, limit as u32)
 }
 
