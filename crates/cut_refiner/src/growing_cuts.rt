@@ -44,9 +44,10 @@ fn triangles_of(fields: &[PatchField], patches: &[u32]) -> u64
 fn incoming_counts(alloc: Global, mesh: &Mesh) -> Result<Vec<u32>, NoMemory>
     ensures { IfOk result (λ counts. AreCounts mesh.now.lists counts.items) }
 {
-    let mut counts = Vec::new(alloc);
-    for node in 0..mesh.index().node_count() {
-        counts.push(mesh.incoming(node).len() as u32)?;
+    let nodes = mesh.index().node_count();
+    let mut counts = Vec::with_capacity(alloc, nodes as usize)?;
+    for node in 0..nodes {
+        counts.push_reserved(mesh.incoming(node).len() as u32);
     }
     Ok(counts)
 }

@@ -1,7 +1,6 @@
 //! A round, step by step.
 
 use crate::cut_lists::CutLists;
-use crate::degrees::greatest_degree;
 use crate::hands::go_on;
 use crate::locks::Locks;
 use crate::refinement_states::RefinementState;
@@ -70,7 +69,7 @@ impl<'m> Refiner<'m> {
             index.node_count() as usize,
             index.patch_count() as usize,
         )?;
-        let locks = Locks::with_room(alloc, greatest_degree(rules.mesh()))?;
+        let locks = Locks::with_room(alloc, rules.mesh().greatest_degree())?;
         let mut refinement = RefinementState::begin(alloc, &rules)?;
         let hand = go_on(&rules, &mut refinement, &mut lists);
         Ok(Refiner {
@@ -121,7 +120,8 @@ impl<'m> Refiner<'m> {
             return;
         }
         self.locks.keep();
-        self.refinement.join(&self.rules, node);
+        let size = self.refinement.next_size;
+        self.refinement.join(&self.rules, node, size);
         self.hand = go_on(&self.rules, &mut self.refinement, &mut self.lists);
     }
 

@@ -34,9 +34,3 @@ Checks bytes (Err (Refused (File fault))) = file_in bytes ≡ Err fault
 Checks bytes (Err (Refused (Dag fault))) = (file : FileLists) × (file_in bytes ≡ Ok file) × IsMeshFault file fault
 Checks bytes (Err ReadFault) = Unit {0}
 Checks bytes (Err Memory) = Unit {0}
-
--- the refusal is the store's failure only where the fact holds
-abbrev pub ChecksOnlyIf : Type 0 → CheckRefusal → Type 0
-ChecksOnlyIf fact (Refused refusal) = Unit {0}
-ChecksOnlyIf fact ReadFault = fact
-ChecksOnlyIf fact Memory = Unit {0}

@@ -1,14 +1,15 @@
 //! Checking a patch file from its store.
 
-ghost use Rattle.std.specs.Prelude.{◌≡◌, ◌≤◌, length, Ok, IfOk, IfErr, IfSome};
-ghost use Rattle.file_model.specs.Answers.{FailsOnlyIf};
+ghost use Rattle.std.specs.Prelude.{◌≡◌, length, Ok, IfOk, IfSome};
+ghost use Rattle.file_model.specs.declared.refusals.ReadRefusal.TheVariants as reads;
 ghost use Rattle.file_model.specs.Lists.{bodies_size};
 ghost use Rattle.file_model.specs.Reading.{index_in, file_in};
 ghost use Rattle.mesh_model.specs.Meshes.{IsMesh};
-ghost use Rattle.view_outside.specs.Faults.{Rose};
 ghost use Rattle.view_outside.specs.Files.{HasFile, file_bytes};
+ghost use Rattle.view_outside.specs.OnlyRead.{OnlyRead};
 ghost use Rattle.view_outside.specs.Taken.{taken_after};
-ghost use Rattle.dag_check.specs.Checks.{bodies_behind, FollowsBodies, FollowsFile, Checks, ChecksOnlyIf};
+ghost use Rattle.dag_check.specs.Checks.{bodies_behind, FollowsBodies, FollowsFile, Checks};
+ghost use Rattle.dag_check.specs.declared.refusals.CheckRefusal.TheVariants as checks;
 
 use crate::checkers::Checker;
 use crate::refusals::CheckRefusal;
@@ -30,9 +31,8 @@ fn read_bodies<S: Store>(
     ensures index { IfOk result (λ checker. checker.index ≡ index) }
     ensures all { IfOk result (λ checker. checker.next ≡ length index.fields) }
 
-    ensures kept { S.files store.new ≡ S.files store.old }
-    ensures later { S.faults store.old ≤ S.faults store.new }
-    ensures cause { IfErr result (FailsOnlyIf (Rose (S.faults store.old) (S.faults store.new))) }
+    ensures store { OnlyRead reads.ReadFault (S.files store.old) (S.files store.new)
+        (S.faults store.old) (S.faults store.new) result }
     ensures taken { IfOk result (λ _. S.taken store.new
         ≡ taken_after (S.taken store.old) (bodies_size index.version index.fields)) }
 {
@@ -58,9 +58,8 @@ fn read_rest<S: Store>(
     ensures index { IfOk result (λ checker. checker.index ≡ index) }
     ensures all { IfOk result (λ checker. checker.next ≡ length index.fields) }
 
-    ensures kept { S.files store.new ≡ S.files store.old }
-    ensures later { S.faults store.old ≤ S.faults store.new }
-    ensures cause { IfErr result (FailsOnlyIf (Rose (S.faults store.old) (S.faults store.new))) }
+    ensures store { OnlyRead reads.ReadFault (S.files store.old) (S.files store.new)
+        (S.faults store.old) (S.faults store.new) result }
     ensures taken { IfOk result (λ _. S.taken store.new
         ≡ taken_after (S.taken store.old) (bodies_size index.version index.fields)) }
 {
@@ -87,9 +86,8 @@ pub fn check<S: Store>(
     ensures index { IfOk result (λ mesh. mesh.lists.index ≡ index) }
     ensures facts { IfOk result (λ mesh. IsMesh mesh.lists) }
 
-    ensures kept { S.files store.new ≡ S.files store.old }
-    ensures later { S.faults store.old ≤ S.faults store.new }
-    ensures cause { IfErr result (ChecksOnlyIf (Rose (S.faults store.old) (S.faults store.new))) }
+    ensures store { OnlyRead checks.ReadFault (S.files store.old) (S.files store.new)
+        (S.faults store.old) (S.faults store.new) result }
     ensures taken { IfOk result (λ _. S.taken store.new
         ≡ taken_after (S.taken store.old) (bodies_size index.version index.fields)) }
 {

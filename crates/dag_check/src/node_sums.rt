@@ -4,10 +4,10 @@ ghost use Rattle.std.specs.Prelude.{◌≡◌, ◌*◌, ◌^◌, ◌<◌, ◌≤
 ghost use Rattle.mesh_model.specs.Nets.{one_if};
 ghost use Rattle.dag_check.specs.NodeSums.{empty_node_sums, is_under_way, pairs_of, chain_on, IsGrown, settled, Compares, Takes};
 
-use crate::sides::Side;
 use body_edges::add_triangles;
 use edge_chain::{Difference, EdgeChain};
 use grid_vertex::NoMemory;
+use mesh_model::Side;
 use patch_file::Body;
 use std::alloc::Global;
 

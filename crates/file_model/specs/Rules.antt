@@ -6,6 +6,7 @@ use Rattle.grid_vertex.specs.Points.{is_in_grid}
 use Rattle.grid_vertex.specs.Triangles.{is_flat_triangle}
 use Rattle.file_model.specs.declared.fields.Node.{Node}
 use Rattle.file_model.specs.declared.fields.PatchField.{PatchField}
+use Rattle.file_model.specs.declared.limits.TheConstants.{MOST_NODES, MOST_PATCHES}
 use Rattle.file_model.specs.Lists.{Corners, BodyLists, IndexLists, FileLists, triangle_of}
 use Rattle.file_model.specs.Spelling.{origin_of, file_text}
 
@@ -17,10 +18,10 @@ abbrev pub is_between : ℕ → ℕ → ℕ → Bool
 is_between low high n = nat_le low n && nat_le n high
 
 abbrev pub is_node_count : ℕ → Bool
-is_node_count n = is_between 2 65536 n
+is_node_count n = is_between 2 MOST_NODES n
 
 abbrev pub is_patch_count : ℕ → Bool
-is_patch_count p = is_between 1 65536 p
+is_patch_count p = is_between 1 MOST_PATCHES p
 
 -- the centre is in the grid, the radius at most 4,194,304 and the error at most 1,048,576
 abbrev pub is_node : Node → Bool

@@ -5,9 +5,9 @@ ghost use Rattle.mesh_graph.specs.Chains.{HaveNodes};
 ghost use Rattle.mesh_graph.specs.Adjacency.{IsAdjacency, is_bare_at};
 
 use crate::chains::{link, push_chain};
-use crate::sides::Side;
 use file_model::PatchField;
 use grid_vertex::NoMemory;
+use mesh_model::Side;
 use std::alloc::Global;
 use std::marker::Model;
 

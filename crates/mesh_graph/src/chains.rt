@@ -2,13 +2,14 @@
 
 ghost use Rattle.std.specs.Prelude.{◌≡◌, ℕ, ◌<◌, ◌≤◌, List, ◌++◌, length, slice_get, Some, OnOk, IfOk};
 ghost use Rattle.file_model.specs.declared.fields.PatchField.{PatchField};
-ghost use Rattle.mesh_graph.specs.Sides.{node_on};
+ghost use Rattle.mesh_model.specs.Sides.{node_on};
 ghost use Rattle.mesh_graph.specs.Chains.{IsChain, AreLinked, HaveNodes};
 
 use crate::blanks::blank_list;
-use crate::sides::{Side, node_of};
+use crate::sides::node_of;
 use file_model::PatchField;
 use grid_vertex::NoMemory;
+use mesh_model::Side;
 use std::alloc::Global;
 
 /// For each node its first patch, and for each patch the next one of the same node.

@@ -1,7 +1,7 @@
 //! The first fault of a graph, or its root.
 
 ghost use Rattle.std.specs.Prelude.{◌≡◌, ℕ, ◌≤◌, length};
-ghost use Rattle.mesh_graph.specs.declared.sides.Side.TheVariants.{Incoming, Outgoing};
+ghost use Rattle.mesh_model.specs.declared.sides.Side.TheVariants.{Incoming, Outgoing};
 ghost use Rattle.mesh_graph.specs.Chains.{HaveNodes};
 ghost use Rattle.mesh_graph.specs.Adjacency.{IsAdjacency};
 ghost use Rattle.mesh_graph.specs.Levels.{AreAllLevels};

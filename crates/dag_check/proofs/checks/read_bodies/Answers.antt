@@ -28,8 +28,8 @@ loop-patch-preserved g c =
     let below : c.loop-patch.patch < length c.args.index.fields = omega (arith, c.patch_count-patches.ensures.value, c.loop-patch-test.true) in
     let same = c.index.ensures ∙ c.loop-patch.invariant.index in
     record {
-      files = c.in_ok-body.ensures.kept ∙ c.loop-patch.invariant.files;
-      later = omega (arith, c.in_ok-body.ensures.later, c.loop-patch.invariant.later);
+      files = c.in_ok-body.ensures.store.kept ∙ c.loop-patch.invariant.files;
+      later = omega (arith, c.in_ok-body.ensures.store.later, c.loop-patch.invariant.later);
       taken = taken-more c.args.index c.loop-patch.patch _ _ _ (length c.in_ok-body.body.bytes) below (rw same at c.in_ok-body.ensures.body.size) c.loop-patch.invariant.taken c.in_ok-body.ensures.taken;
       index = c.in_ok-checker-2.ensures.index ∙ c.loop-patch.invariant.index;
       next = omega (arith, c.in_ok-checker-2.ensures.next, c.loop-patch.invariant.next);
