@@ -28,18 +28,7 @@ abbrev pub FollowsFile : Result CheckerSeen ReadRefusal → Result FileLists Fil
 FollowsFile (Ok checker) read = (bodies : List BodyLists) × (read ≡ Ok (file_with checker.index bodies)) × Follows checker bodies
 FollowsFile (Err refusal) read = Refuses refusal read
 
-<<<<<<< HEAD
 -- what a check answers for a file of these bytes
-=======
--- the mesh is the accepted file's
-pub record IsMeshOf (file : FileLists) (mesh : MeshSeen) : Type 0 where
-  pub index : file.index ≡ mesh.lists.index
-  pub accepted : IsAccepted file mesh.lists.root
-  pub facts : IsMesh mesh.lists
-  pub base : HasOpenPairs (triangles_out_of file mesh.lists.root) mesh.base_open
-
--- what a check answers for a file of these bytes: where it gives a mesh, they are the patch file that it is of
->>>>>>> 15a40fa5912c54216dd5150c6af604efebb45ef8
 abbrev pub Checks : List ℕ → Result MeshSeen CheckRefusal → Type 0
 Checks bytes (Ok mesh) = (file : FileLists) × (file_in bytes ≡ Ok file) × IsMeshOf file mesh × IsPatchFile file bytes
 Checks bytes (Err (Refused (File fault))) = file_in bytes ≡ Err fault
