@@ -26,12 +26,6 @@ RefusesLoad index bytes (Changed patch fault) = body_at index bytes patch ≡ So
 RefusesLoad index bytes ReadFault = Unit {0}
 RefusesLoad index bytes Memory = Unit {0}
 
--- the load failed for the store's failure only where the fact holds
-abbrev pub LoadsOnlyIf : Type 0 → LoadRefusal → Type 0
-LoadsOnlyIf fact (Changed patch fault) = Unit {0}
-LoadsOnlyIf fact ReadFault = fact
-LoadsOnlyIf fact Memory = Unit {0}
-
 abbrev pub patches_of : List SeenBody → List ℕ
 patches_of bodies = map (λ (body : SeenBody). body.patch) bodies
 

@@ -1,10 +1,11 @@
 //! Loading bodies again.
 
-ghost use Rattle.std.specs.Prelude.{◌≡◌, ◌<◌, ◌≤◌, length, map, All, IfOk, IfErr, IfSome, MatchResult};
+ghost use Rattle.std.specs.Prelude.{◌≡◌, ◌<◌, length, map, All, IfOk, IfSome, MatchResult};
 ghost use Rattle.std.specs.Arc.{arc_value};
-ghost use Rattle.view_outside.specs.Faults.{Rose};
 ghost use Rattle.view_outside.specs.Files.{HasFile, file_bytes};
-ghost use Rattle.body_loads.specs.Loads.{body_at, AreBodiesAt, RefusesLoad, LoadsOnlyIf, read_as, patches_of};
+ghost use Rattle.view_outside.specs.OnlyRead.{OnlyRead};
+ghost use Rattle.body_loads.specs.declared.refusals.LoadRefusal.TheVariants.{ReadFault};
+ghost use Rattle.body_loads.specs.Loads.{body_at, AreBodiesAt, RefusesLoad, read_as, patches_of};
 
 use crate::refusals::LoadRefusal;
 use file_model::ReadRefusal;
@@ -26,9 +27,8 @@ fn load_body<S: Store>(
     ensures told { IfSome (file_bytes (S.files store.old) file) (λ bytes.
         MatchResult result (λ body. body_at index.now bytes patch ≡ read_as (arc_value body)) (RefusesLoad index.now bytes)) }
     ensures patch { IfOk result (λ body. (arc_value body).patch ≡ patch) }
-    ensures kept { S.files store.new ≡ S.files store.old }
-    ensures later { S.faults store.old ≤ S.faults store.new }
-    ensures cause { IfErr result (LoadsOnlyIf (Rose (S.faults store.old) (S.faults store.new))) }
+    ensures store { OnlyRead ReadFault (S.files store.old) (S.files store.new)
+        (S.faults store.old) (S.faults store.new) result }
 {
     match read_body(alloc, index, store, file, patch) {
         Ok(body) => Ok(Arc::new(alloc, body)?),
@@ -52,9 +52,8 @@ pub fn load_bodies<S: Store>(
     ensures told { IfSome (file_bytes (S.files store.old) file) (λ bytes.
         MatchResult result (λ bodies. AreBodiesAt index.now bytes patches.now (map arc_value bodies.items)) (RefusesLoad index.now bytes)) }
     ensures patches { IfOk result (λ bodies. patches_of (map arc_value bodies.items) ≡ patches.now) }
-    ensures kept { S.files store.new ≡ S.files store.old }
-    ensures later { S.faults store.old ≤ S.faults store.new }
-    ensures cause { IfErr result (LoadsOnlyIf (Rose (S.faults store.old) (S.faults store.new))) }
+    ensures store { OnlyRead ReadFault (S.files store.old) (S.files store.new)
+        (S.faults store.old) (S.faults store.new) result }
 {
     let mut bodies = Vec::with_capacity(alloc, patches.len())?;
     for patch in patches {

@@ -12,23 +12,38 @@ use Rattle.token_words.specs.declared.plain_words.PlainTokens.{PlainTokens}
 abbrev pub patch_count : PlainTokens → ℕ
 patch_count tokens = vec_len tokens.entries
 
--- the epoch of a patch
-abbrev pub epoch_of : PlainTokens → ℕ → ℕ
-epoch_of tokens patch = option_map_or (λ entry. entry.word.epoch) (slice_get tokens.entries.items patch) 0
+-- the words as a list by patch
+abbrev pub words_seen : PlainTokens → List Entry
+words_seen tokens = tokens.entries.items
+
+-- in such a list: the epoch of a patch
+abbrev pub epoch_in : List Entry → ℕ → ℕ
+epoch_in words patch = option_map_or (λ entry. entry.word.epoch) (slice_get words patch) 0
 
 -- whether a patch is pinned
-abbrev pub is_pinned : PlainTokens → ℕ → Bool
-is_pinned tokens patch = option_map_or (λ entry. entry.word.is_pinned) (slice_get tokens.entries.items patch) false
+abbrev pub is_pinned_in : List Entry → ℕ → Bool
+is_pinned_in words patch = option_map_or (λ entry. entry.word.is_pinned) (slice_get words patch) false
 
 -- whether a session uses a patch
-abbrev pub is_user : PlainTokens → ℕ → ℕ → Bool
-is_user tokens session patch =
-    option_map_or (λ entry. has_session entry.users.mask session) (slice_get tokens.entries.items patch) false
+abbrev pub is_user_in : List Entry → ℕ → ℕ → Bool
+is_user_in words session patch = option_map_or (λ entry. has_session entry.users.mask session) (slice_get words patch) false
 
 -- whether a session has a patch locked
+abbrev pub is_locker_in : List Entry → ℕ → ℕ → Bool
+is_locker_in words session patch = option_map_or (λ entry. has_session entry.lockers.mask session) (slice_get words patch) false
+
+-- the same of the plain words
+abbrev pub epoch_of : PlainTokens → ℕ → ℕ
+epoch_of tokens = epoch_in (words_seen tokens)
+
+abbrev pub is_pinned : PlainTokens → ℕ → Bool
+is_pinned tokens = is_pinned_in (words_seen tokens)
+
+abbrev pub is_user : PlainTokens → ℕ → ℕ → Bool
+is_user tokens = is_user_in (words_seen tokens)
+
 abbrev pub is_locker : PlainTokens → ℕ → ℕ → Bool
-is_locker tokens session patch =
-    option_map_or (λ entry. has_session entry.lockers.mask session) (slice_get tokens.entries.items patch) false
+is_locker tokens = is_locker_in (words_seen tokens)
 
 -- the session of a pass
 abbrev pub session_of : PlainPass → ℕ
