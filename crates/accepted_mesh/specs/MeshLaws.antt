@@ -14,21 +14,21 @@ use Rattle.accepted_mesh.specs.MeshView.{levels_of, mesh_lists, IsMeshState}
 length-levels : (levels : List (Option ℕ)) → length (levels_of levels) ≡ length levels
 length-levels levels = length-map levels (λ level. unwrap_or level 0)
 
-level_known : (index : IndexLists) (graph : GraphSeen) (root triangle_sum v level : ℕ) (found : Option (Option ℕ)) → IsMeshState index graph root triangle_sum → slice_get graph.levels v ≡ found → option_map (λ l. unwrap_or l 0) found ≡ Some level → IsLevel index.fields v level
-level_known index graph root triangle_sum v level None h at e = absurd cc
-level_known index graph root triangle_sum v level (Some None) h at e =
+level_known : (index : IndexLists) (graph : GraphSeen) (root v level : ℕ) (found : Option (Option ℕ)) → IsMeshState index graph root → slice_get graph.levels v ≡ found → option_map (λ l. unwrap_or l 0) found ≡ Some level → IsLevel index.fields v level
+level_known index graph root v level None h at e = absurd cc
+level_known index graph root v level (Some None) h at e =
     let within : v < length graph.levels = slice_get_within graph.levels v None at in
     absurd (h.graph.no_level_is v at (h.nested.grounded v (omega (arith, within, h.graph.level_count))))
-level_known index graph root triangle_sum v level (Some (Some l)) h at e =
+level_known index graph root v level (Some (Some l)) h at e =
     let same : l ≡ level = cc in
     subst (λ (n : ℕ). IsLevel index.fields v n) same (h.graph.level_is v l at)
 
-pub mesh_is : (index : IndexLists) (graph : GraphSeen) (root triangle_sum : ℕ) → IsMeshState index graph root triangle_sum → IsMesh (mesh_lists index graph root)
-mesh_is index graph root triangle_sum h = record {
+pub mesh_is : (index : IndexLists) (graph : GraphSeen) (root : ℕ) → IsMeshState index graph root → IsMesh (mesh_lists index graph root)
+mesh_is index graph root h = record {
   rules = h.rules;
   graph = h.nested;
   as_many = length-levels graph.levels ∙ h.graph.level_count;
-  are_levels = λ v level e. level_known index graph root triangle_sum v level (slice_get graph.levels v) h refl (sym (slice_get-map (λ l. unwrap_or l 0) graph.levels v) ∙ e);
+  are_levels = λ v level e. level_known index graph root v level (slice_get graph.levels v) h refl (sym (slice_get-map (λ l. unwrap_or l 0) graph.levels v) ∙ e);
 }
 
 -- a number that stands first among those that pass a test

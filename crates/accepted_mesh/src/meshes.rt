@@ -12,16 +12,17 @@ pub struct Mesh {
     root: u32,
     base_open: u64,
     triangle_sum: u64,
+    greatest_degree: usize,
 }
 
 impl Model for Mesh {
-    ghost use Rattle.accepted_mesh.specs.MeshView.{MeshSeen, mesh_seen, IsMeshState};
+    ghost use Rattle.accepted_mesh.specs.MeshView.{MeshSeen, mesh_seen, IsMeshState, AreTotals};
 
     ghost Value = { MeshSeen };
 
     ghost view = { λ m. mesh_seen m.index m.graph m.root m.base_open };
 
-    ghost invariant = { λ m. IsMeshState m.index m.graph m.root m.triangle_sum };
+    ghost invariant = { λ m. IsMeshState m.index m.graph m.root × AreTotals m.index m.triangle_sum m.greatest_degree };
 }
 
 impl Mesh {
@@ -30,19 +31,23 @@ impl Mesh {
     ghost use Rattle.mesh_model.specs.Accepted.{IsNestedGraph};
     ghost use Rattle.mesh_model.specs.Meshes.{IsMesh};
     ghost use Rattle.mesh_model.specs.Frames.{triangles_in_all};
-    ghost use Rattle.accepted_mesh.specs.MeshView.{mesh_seen, IsMeshState};
+    ghost use Rattle.accepted_mesh.specs.MeshView.{mesh_seen, IsMeshState, IsGreatestDegree};
 
+    /// The mesh of an index whose graph was found to be nested from the root. Condition: all is of one
+    /// file. `base_open` is the number of open pairs of the root's patches.
     pub fn with(index: Index, graph: MeshGraph, root: u32, base_open: u64) -> Mesh
-        requires { IsMeshState index graph root (triangles_in_all index.fields) }
+        requires { IsMeshState index graph root }
         ensures { result ≡ mesh_seen index graph root base_open }
     {
         let triangle_sum = triangle_sum_of(&index);
+        let greatest_degree = greatest_degree_of(&index, &graph);
         Mesh {
             index,
             graph,
             root,
             base_open,
             triangle_sum,
+            greatest_degree,
         }
     }
 
@@ -117,8 +122,17 @@ impl Mesh {
     {
         self.triangle_sum
     }
+
+    /// The greatest number of patches that lead from one node.
+    pub fn greatest_degree(&self) -> usize
+        ensures { IsGreatestDegree self.now.lists.index result }
+    {
+        self.greatest_degree
+    }
 }
 
+mod degrees;
 mod sums;
 
+use degrees::greatest_degree_of;
 use sums::triangle_sum_of;

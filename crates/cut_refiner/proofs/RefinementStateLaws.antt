@@ -14,9 +14,9 @@ use Rattle.cut_refiner.specs.GrowingCuts.{IsGrowing}
 use Rattle.cut_refiner.specs.RefinementStates.{IsWaiting, IsGoing, ArePassed, IsFound}
 use Rattle.cut_refiner.proofs.ReadyLaws.{IsTaken, taken, none_ready}
 
--- the refinement state with other candidates
-abbrev pub with_candidates : RefinementState → Waiting → RefinementState
-with_candidates refinement waiting = record { growing = refinement.growing; candidates = waiting }
+-- the refinement state with other candidates, and another size of the next frame
+abbrev pub with_candidates : RefinementState → Waiting → ℕ → RefinementState
+with_candidates refinement waiting size = record { growing = refinement.growing; candidates = waiting; next_size = size }
 
 -- a round before what follows nodes that aren't tried
 pub record IsLeft (rules : Rules) (rest : List ℕ) (refinement : RefinementState) : Type 0 where
@@ -57,8 +57,8 @@ module _ (rules : Rules) (are : AreRules rules) (rest : List ℕ) (refinement : 
     parents = popped.parents;
   }
 
-  goes_on : IsGoing rules popped.after (with_candidates refinement waiting)
-  goes_on = record {
+  goes_on : (size : ℕ) → IsGoing rules popped.after (with_candidates refinement waiting size)
+  goes_on size = record {
     growing = going.growing;
     waiting = popped.waiting;
     room = let was = going.room in omega arith;
@@ -70,25 +70,26 @@ module _ (rules : Rules) (are : AreRules rules) (rest : List ℕ) (refinement : 
   wanted_parents : (is_wanted rules v && has_parents rules.mesh.index.fields set v) ≡ true
   wanted_parents = and_from (is_wanted rules v) (has_parents rules.mesh.index.fields set v) popped.wanted popped.parents
 
-  pub popped_is_found : is_within_limit rules set v ≡ true → IsFound rules rest (with_candidates refinement waiting) v
-  popped_is_found within = record {
+  pub popped_is_found : (size : ℕ) → size ≡ frame_size (has (with_member set v)) rules.mesh.index.fields → is_within_limit rules set v ≡ true → IsFound rules rest (with_candidates refinement waiting size) v
+  popped_is_found size is within = record {
     passed = left.passed ++ popped.before;
     later = popped.after;
     split = left.split ∙ ap (λ (us : List ℕ). left.passed ++ us) popped.split ∙ sym (append_assoc left.passed popped.before (v ∷ popped.after));
     are_passed = passed_both (λ u. is_tried rules set u ≡ false) left.passed popped.before left.are_passed popped.are_passed;
     tried = and_from (is_wanted rules v && has_parents rules.mesh.index.fields set v) (is_within_limit rules set v) wanted_parents within;
     outside = going.outside v popped.among;
-    going = goes_on;
+    size = is;
+    going = goes_on size;
   }
 
-  pub popped_is_passed : is_within_limit rules set v ≡ false → IsLeft rules rest (with_candidates refinement waiting)
+  pub popped_is_passed : is_within_limit rules set v ≡ false → IsLeft rules rest (with_candidates refinement waiting refinement.next_size)
   popped_is_passed over = record {
     passed = left.passed ++ (popped.before ++ v ∷ []);
     later = popped.after;
     split = left.split ∙ ap (λ (us : List ℕ). left.passed ++ us) popped.split ∙ node_last left.passed popped.before popped.after v;
     are_passed = passed_both (λ u. is_tried rules set u ≡ false) left.passed (popped.before ++ v ∷ []) left.are_passed
         (passed_both (λ u. is_tried rules set u ≡ false) popped.before (v ∷ []) popped.are_passed (and_right (is_wanted rules v && has_parents rules.mesh.index.fields set v) (is_within_limit rules set v) over, tt));
-    going = goes_on;
+    going = goes_on refinement.next_size;
   }
 
 -- without a candidate the rest is passed

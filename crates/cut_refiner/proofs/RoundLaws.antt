@@ -83,6 +83,7 @@ trying_from rules tries refinement node granted gone rest between order found no
       node_is = refl;
       granted_is = sym none;
       outside = found.outside;
+      size = found.size;
       gone = gone ++ found.passed;
       rest = found.later;
       order = order';
@@ -207,6 +208,7 @@ module _ (rules : Rules) (tries : List Try) (refinement : RefinementState) (node
     node_is = trying.node_is;
     granted_is = omega (arith, length-append hand.granted (try_of hand.patch epoch ∷ []), trying.granted_is);
     outside = trying.outside;
+    size = trying.size;
     gone = trying.gone;
     rest = trying.rest;
     order = trying.order;

@@ -5,7 +5,7 @@ use Rattle.file_model.specs.declared.fields.PatchField.{PatchField}
 use Rattle.mesh_model.specs.Graph.{is_sink}
 use Rattle.mesh_model.specs.Nets.{one_if}
 use Rattle.round_model.specs.Order.{Rules, score, level, node_order}
-use Rattle.round_model.specs.Rounds.{has, has_parents, is_wanted, is_tried}
+use Rattle.round_model.specs.Rounds.{has, has_parents, with_member, frame_size, is_wanted, is_tried}
 use Rattle.round_laws.specs.Among.{is_among}
 use Rattle.cut_refiner.specs.declared.candidates.Candidate.{Candidate}
 use Rattle.cut_refiner.specs.declared.refinement_states.RefinementState.{RefinementState}
@@ -52,7 +52,8 @@ pub record CanJoin (rules : Rules) (rest : List ℕ) (refinement : RefinementSta
 abbrev pub ArePassed : Rules → List Bool → List ℕ → Type 0
 ArePassed rules set vs = AllByRecursion (λ v. is_tried rules set v ≡ false) vs
 
--- the node is the first of the rest that is tried by the set, and the round stands before what follows it
+-- the node is the first of the rest that is tried by the set, the size is that of the frame with it, and the
+-- round stands before what follows it
 pub record IsFound (rules : Rules) (rest : List ℕ) (refinement : RefinementState) (v : ℕ) : Type 0 where
   pub passed : List ℕ
   pub later : List ℕ
@@ -60,6 +61,7 @@ pub record IsFound (rules : Rules) (rest : List ℕ) (refinement : RefinementSta
   pub are_passed : ArePassed rules refinement.growing.in_cut.items passed
   pub tried : is_tried rules refinement.growing.in_cut.items v ≡ true
   pub outside : has refinement.growing.in_cut.items v ≡ false
+  pub size : refinement.next_size ≡ frame_size (has (with_member refinement.growing.in_cut.items v)) rules.mesh.index.fields
   pub going : IsGoing rules later refinement
 
 -- the next node of the rest that is tried by the set, or none

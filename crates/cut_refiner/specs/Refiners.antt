@@ -6,7 +6,7 @@ use Rattle.std.specs.declared.alloc.Global.{Global}
 use Rattle.file_model.specs.declared.fields.Try.{Try}
 use Rattle.mesh_model.specs.Graph.{outgoing}
 use Rattle.round_model.specs.Order.{Rules, node_order}
-use Rattle.round_model.specs.Rounds.{NodeInProgress, has, round_of, epochs_of}
+use Rattle.round_model.specs.Rounds.{NodeInProgress, has, with_member, frame_size, round_of, epochs_of}
 use Rattle.cut_refiner.specs.declared.refinement_states.RefinementState.{RefinementState}
 use Rattle.cut_refiner.specs.declared.cut_lists.CutLists.{CutLists}
 use Rattle.cut_refiner.specs.RoundRules.{AreRules}
@@ -29,6 +29,7 @@ pub record IsTrying (rules : Rules) (tries : List Try) (refinement : RefinementS
   pub node_is : hand.node ≡ node
   pub granted_is : length hand.granted ≡ granted
   pub outside : has refinement.growing.in_cut.items node ≡ false
+  pub size : refinement.next_size ≡ frame_size (has (with_member refinement.growing.in_cut.items node)) rules.mesh.index.fields
   pub gone : List ℕ
   pub rest : List ℕ
   pub order : node_order rules ≡ gone ++ node ∷ rest

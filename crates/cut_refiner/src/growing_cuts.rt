@@ -2,6 +2,7 @@
 
 ghost use Rattle.std.specs.Prelude.{◌≡◌, ◌<◌, ◌≤◌, ◌-◌, length, replicate, slice_index, slice_set, true, false, IfOk, All};
 ghost use Rattle.std.specs.List.{sum_by};
+ghost use Rattle.file_model.specs.declared.limits.TheConstants.{MOST_IN_PATCH, MOST_PATCHES};
 ghost use Rattle.round_model.specs.Rounds.{has, has_parents, with_member, frame_size};
 ghost use Rattle.cut_refiner.specs.GrowingCuts.{triangles_at, IsGrowingCut, IsGrowing, AreCounts};
 
@@ -22,7 +23,7 @@ pub struct GrowingCut {
 /// How many triangles the patch has.
 fn triangles_in(field: &PatchField) -> u64
     ensures value { result ≡ field.now.triangles }
-    ensures few { result ≤ 65535 }
+    ensures few { result ≤ MOST_IN_PATCH }
 {
     u64::from(field.triangles)
 }
@@ -30,7 +31,7 @@ fn triangles_in(field: &PatchField) -> u64
 /// How many triangles the patches have together.
 fn triangles_of(fields: &[PatchField], patches: &[u32]) -> u64
     requires patches { All (λ p. p < length fields.now) patches.now }
-    requires few { length patches.now ≤ 65536 }
+    requires few { length patches.now ≤ MOST_PATCHES }
     ensures { result ≡ sum_by (triangles_at fields.now) patches.now }
 {
     let mut sum = 0;
@@ -44,9 +45,10 @@ fn triangles_of(fields: &[PatchField], patches: &[u32]) -> u64
 fn incoming_counts(alloc: Global, mesh: &Mesh) -> Result<Vec<u32>, NoMemory>
     ensures { IfOk result (λ counts. AreCounts mesh.now.lists counts.items) }
 {
-    let mut counts = Vec::new(alloc);
-    for node in 0..mesh.index().node_count() {
-        counts.push(mesh.incoming(node).len() as u32)?;
+    let nodes = mesh.index().node_count();
+    let mut counts = Vec::with_capacity(alloc, nodes as usize)?;
+    for node in 0..nodes {
+        counts.push_reserved(mesh.incoming(node).len() as u32);
     }
     Ok(counts)
 }

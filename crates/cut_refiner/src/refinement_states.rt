@@ -3,7 +3,7 @@
 ghost use Rattle.std.specs.Prelude.{◌≡◌, ◌≢◌, ℕ, ◌<◌, ◌≤◌, ◌-◌, List, length, replicate, slice_index, slice_set, false, not, IfOk};
 ghost use Rattle.mesh_model.specs.Graph.{is_sink};
 ghost use Rattle.round_model.specs.Order.{node_order};
-ghost use Rattle.round_model.specs.Rounds.{with_member, root_set};
+ghost use Rattle.round_model.specs.Rounds.{has, with_member, frame_size, root_set};
 ghost use Rattle.round_laws.specs.Among.{is_among};
 ghost use Rattle.cut_refiner.specs.RefinementStates.{IsWaiting, IsGoing, CanJoin, IsNext};
 
@@ -18,6 +18,8 @@ use std::alloc::Global;
 pub struct RefinementState {
     pub growing: GrowingCut,
     pub candidates: Candidates,
+    /// How many triangles lead out of the set with the node that came last from `next`.
+    pub next_size: u64,
 }
 
 impl RefinementState {
@@ -32,6 +34,7 @@ impl RefinementState {
         Ok(RefinementState {
             growing,
             candidates,
+            next_size: 0,
         })
     }
 
@@ -41,18 +44,22 @@ impl RefinementState {
         ensures going { IfOk result (λ refinement. IsGoing rules.now (node_order rules.now) refinement) }
     {
         let mut refinement = RefinementState::empty(alloc, rules)?;
-        refinement.join(rules, rules.mesh().root());
+        let mesh = rules.mesh();
+        let root = mesh.root();
+        let size = refinement.growing.size_with(mesh, root);
+        refinement.join(rules, root, size);
         Ok(refinement)
     }
 
-    /// Puts the node into the set.
-    pub fn join(&mut self, rules: &RoundRules, node: u32)
-        requires { (rest : List ℕ) × CanJoin rules.now rest self.old node }
+    /// Puts the node into the set, out of which then so many triangles lead.
+    pub fn join(&mut self, rules: &RoundRules, node: u32, size: u64)
+        requires can { (rest : List ℕ) × CanJoin rules.now rest self.old node }
+        requires size { size ≡ frame_size (has (with_member self.old.growing.in_cut.items node)) rules.now.mesh.index.fields }
         ensures set { self.new.growing.in_cut.items ≡ with_member self.old.growing.in_cut.items node }
         ensures going { (rest : List ℕ) → CanJoin rules.now rest self.old node → IsGoing rules.now rest self.new }
     {
         let mesh = rules.mesh();
-        self.growing.size = self.growing.size_with(mesh, node);
+        self.growing.size = size;
         self.growing.in_cut[node as usize] = true;
         for patch in mesh.outgoing(node) {
             let head = mesh.index().patch(*patch).head;
@@ -90,7 +97,9 @@ impl RefinementState {
         let mesh = rules.mesh();
         while let Some(candidate) = self.candidates.pop() {
             let node = candidate.node.0;
-            if rules.allows(self.growing.size_with(mesh, node)) {
+            let size = self.growing.size_with(mesh, node);
+            if rules.allows(size) {
+                self.next_size = size;
                 return Some(node);
             }
         }

@@ -1,7 +1,6 @@
 //! A round, step by step.
 
 use crate::cut_lists::CutLists;
-use crate::degrees::greatest_degree;
 use crate::hands::go_on;
 use crate::locks::Locks;
 use crate::refinement_states::RefinementState;
@@ -41,6 +40,7 @@ impl<'m> Model for Refiner<'m> {
 impl<'m> Refiner<'m> {
     ghost use Rattle.std.specs.Prelude.{◌≡◌, ℕ, ◌<◌, ◌≤◌, [], length, IfOk};
     ghost use Rattle.file_model.specs.Lists.{FileLists};
+    ghost use Rattle.file_model.specs.declared.limits.TheConstants.{MOST_NODES, MOST_PATCHES};
     ghost use Rattle.mesh_model.specs.Nets.{HaveOneNet};
     ghost use Rattle.mesh_model.specs.Frames.{IsCut};
     ghost use Rattle.mesh_model.specs.Accepted.{IsAccepted, triangles_out_of};
@@ -70,7 +70,7 @@ impl<'m> Refiner<'m> {
             index.node_count() as usize,
             index.patch_count() as usize,
         )?;
-        let locks = Locks::with_room(alloc, greatest_degree(rules.mesh()))?;
+        let locks = Locks::with_room(alloc, rules.mesh().greatest_degree())?;
         let mut refinement = RefinementState::begin(alloc, &rules)?;
         let hand = go_on(&rules, &mut refinement, &mut lists);
         Ok(Refiner {
@@ -121,7 +121,8 @@ impl<'m> Refiner<'m> {
             return;
         }
         self.locks.keep();
-        self.refinement.join(&self.rules, node);
+        let size = self.refinement.next_size;
+        self.refinement.join(&self.rules, node, size);
         self.hand = go_on(&self.rules, &mut self.refinement, &mut self.lists);
     }
 
@@ -146,7 +147,7 @@ impl<'m> Refiner<'m> {
         requires { pending_ask self.now ≡ Done }
         ensures nodes { result.now ≡ cut_of self.now }
         ensures cut { IsCut self.now.rules.mesh.index.fields self.now.rules.mesh.root (has (round_state self.now).set) }
-        ensures few { length result.now ≤ 65536 }
+        ensures few { length result.now ≤ MOST_NODES }
     {
         &self.lists.nodes
     }
@@ -156,7 +157,7 @@ impl<'m> Refiner<'m> {
         requires { pending_ask self.now ≡ Done }
         ensures patches { result.now ≡ cut_patches self.now }
         ensures boundary { (file : FileLists) → IsAccepted file self.now.rules.mesh.root → file.index ≡ self.now.rules.mesh.index → HaveOneNet (frame_of_set file (has (round_state self.now).set)) (triangles_out_of file self.now.rules.mesh.root) }
-        ensures few { length result.now ≤ 65536 }
+        ensures few { length result.now ≤ MOST_PATCHES }
     {
         &self.lists.patches
     }

@@ -7,17 +7,14 @@ use file_model::Try;
 use grid_vertex::Point;
 use mesh_graph::MeshGraph;
 use patch_file::read_index;
+use sample_files::{chain, strip};
 use std::alloc::Global;
 use std::process::Abort;
 use std::test::Fail;
 use view_outside::{MemoryStore, NamedFile};
 
-mod samples;
-
-use samples::{CHAIN, STRIP, bytes_of};
-
-fn mesh_of(alloc: Global, digits: &str) -> Result<Mesh, Fail> {
-    let file = NamedFile::new(String::from_str(alloc, "Q")?, bytes_of(alloc, digits)?);
+fn mesh_of(alloc: Global, bytes: &[u8]) -> Result<Mesh, Fail> {
+    let file = NamedFile::new(String::from_str(alloc, "Q")?, bytes.to_vec(alloc)?);
     let mut store = MemoryStore::new(vec![in alloc; file]?, Vec::new(alloc), Vec::new(alloc));
     let index = read_index(alloc, &mut store, 0)?;
     let _patches = index.patch_count();
@@ -82,7 +79,7 @@ fn give_back(patch: u32) -> (Ask, u32) {
 
 #[test]
 fn a_node_joins_where_all_its_patches_are_granted(rt: HostRuntime) -> Result<(), Fail> {
-    let mesh = mesh_of(rt.alloc(), STRIP)?;
+    let mesh = mesh_of(rt.alloc(), &strip())?;
     let far = view([4, 2, 107], 100, 10, 1000)?;
     let steps = [lock(2, 1), lock(3, 1), lock(4, 0)];
     let round = Refiner::begin(rt.alloc(), &mesh, &far, far.limit())?;
@@ -97,7 +94,7 @@ fn a_node_joins_where_all_its_patches_are_granted(rt: HostRuntime) -> Result<(),
 
 #[test]
 fn the_eye_picks_the_column(rt: HostRuntime) -> Result<(), Fail> {
-    let mesh = mesh_of(rt.alloc(), STRIP)?;
+    let mesh = mesh_of(rt.alloc(), &strip())?;
     let right = view([12, 2, 0], 3, 100, 1000)?;
     let steps = [lock(4, 1), lock(5, 1)];
     let round = Refiner::begin(rt.alloc(), &mesh, &right, right.limit())?;
@@ -110,7 +107,7 @@ fn the_eye_picks_the_column(rt: HostRuntime) -> Result<(), Fail> {
 
 #[test]
 fn a_parent_comes_before_its_child_of_the_same_score(rt: HostRuntime) -> Result<(), Fail> {
-    let mesh = mesh_of(rt.alloc(), CHAIN)?;
+    let mesh = mesh_of(rt.alloc(), &chain())?;
     let near = view([2, 2, 0], 100, 9, 1000)?;
     let round = Refiner::begin(rt.alloc(), &mesh, &near, near.limit())?;
     expect_round(&rt, round, &[lock(1, 1), lock(2, 1)], &[0, 1, 2], &[2])?;

@@ -6,12 +6,13 @@ use Rattle.std.proofs.lemmas.Option.{slice_get_within, same_Some}
 use Rattle.file_model.specs.declared.fields.PatchField.{PatchField}
 use Rattle.file_model.specs.Lists.{BodyLists, IndexLists}
 use Rattle.edge_chain.specs.declared.differences.Difference.{Difference}
-use Rattle.dag_check.specs.declared.sides.Side.{Side}
+use Rattle.mesh_model.specs.declared.sides.Side.{Side}
 use Rattle.dag_check.specs.declared.node_sums.NodeSums.{NodeSums}
 use Rattle.dag_check.specs.declared.borders.BorderDifference.{BorderDifference}
 use Rattle.dag_check.specs.Added.{file_with}
 use Rattle.dag_check.specs.Borders.{lesser_border, HasBorderDifference}
-use Rattle.dag_check.specs.NodeSums.{node_at, Taken, taken_on, one_more, Takes, outer, more, last, AreNodeSums, NodeSumsFollow}
+use Rattle.mesh_model.specs.Sides.{node_on}
+use Rattle.dag_check.specs.NodeSums.{Taken, taken_on, one_more, Takes, outer, more, last, AreNodeSums, NodeSumsFollow}
 use Rattle.dag_check.specs.AllNodeSums.{AllSumsSeen, TakesAt, AreAllSums, IsCompared, AllSumsFollow}
 use Rattle.mesh_graph.specs.ListReads.{slice_get-set_same, slice_get-set_other}
 use Rattle.dag_check.proofs.ListLaws.{set_read}
@@ -27,13 +28,13 @@ each_set P Q node_sums node after here others h v t at =
       | inr e ↦ others v t e.0 (h v t e.1)
     ]
 
-pub step_is : (side : Side) (index : IndexLists) (taken : Taken) (f : PatchField) (body : BodyLists) (before after : AllSumsSeen) → slice_get index.fields (taken_on side taken) ≡ Some f → length body.corners ≤ 65535 → TakesAt side (node_at side f) body before after → AreAllSums index taken before → AreAllSums index (one_more side taken) after
+pub step_is : (side : Side) (index : IndexLists) (taken : Taken) (f : PatchField) (body : BodyLists) (before after : AllSumsSeen) → slice_get index.fields (taken_on side taken) ≡ Some f → length body.corners ≤ 65535 → TakesAt side (node_on side f) body before after → AreAllSums index taken before → AreAllSums index (one_more side taken) after
 step_is side index taken f body before after at small takes h = record {
-  as_many = ap length takes.node_sums ∙ length-set before.node_sums (node_at side f) takes.empty_node_sums ∙ h.as_many;
+  as_many = ap length takes.node_sums ∙ length-set before.node_sums (node_on side f) takes.empty_node_sums ∙ h.as_many;
   are_node_sums = subst (λ (ts : List NodeSums). (v : ℕ) (t : NodeSums) → slice_get ts v ≡ Some t → AreNodeSums index.fields (one_more side taken) v t) (sym takes.node_sums)
-      (each_set (AreNodeSums index.fields taken) (AreNodeSums index.fields (one_more side taken)) before.node_sums (node_at side f) takes.empty_node_sums
-      (own_node side index.fields taken (node_at side f) f body takes.old_sums takes.empty_node_sums takes.difference at (eq-eqb (node_at side f) (node_at side f) refl) small takes.takes (h.are_node_sums (node_at side f) takes.old_sums takes.there))
-      (λ v t apart is. other_node side index.fields taken v f t at (ne_eqb (node_at side f) v (λ e. apart (sym e))) is) h.are_node_sums);
+      (each_set (AreNodeSums index.fields taken) (AreNodeSums index.fields (one_more side taken)) before.node_sums (node_on side f) takes.empty_node_sums
+      (own_node side index.fields taken (node_on side f) f body takes.old_sums takes.empty_node_sums takes.difference at (eq-eqb (node_on side f) (node_on side f) refl) small takes.takes (h.are_node_sums (node_on side f) takes.old_sums takes.there))
+      (λ v t apart is. other_node side index.fields taken v f t at (ne_eqb (node_on side f) v (λ e. apart (sym e))) is) h.are_node_sums);
   open_nodes = takes.open_nodes;
   kept_pairs = takes.kept_pairs;
 }
@@ -79,25 +80,25 @@ adds_node node_sums node before after there e = record {
 }
 
 -- the least border difference, as a body is taken on one side of a node
-border_taken : (side : Side) (index : IndexLists) (taken : Taken) (bodies : List BodyLists) (f : PatchField) (body : BodyLists) (node_sums : List NodeSums) (found : Option BorderDifference) (before after : NodeSums) (difference : Option Difference) → IsNext side index.fields taken bodies f body → AreNodeSums index.fields taken (node_at side f) before → NodeSumsFollow index.fields taken bodies (node_at side f) before → slice_get node_sums (node_at side f) ≡ Some before → Takes side body before after difference → HasBorderDifference (file_with index bodies) (IsCompared node_sums) found → HasBorderDifference (file_with index bodies) (IsCompared (set node_sums (node_at side f) after)) (lesser_border found (node_at side f) difference)
+border_taken : (side : Side) (index : IndexLists) (taken : Taken) (bodies : List BodyLists) (f : PatchField) (body : BodyLists) (node_sums : List NodeSums) (found : Option BorderDifference) (before after : NodeSums) (difference : Option Difference) → IsNext side index.fields taken bodies f body → AreNodeSums index.fields taken (node_on side f) before → NodeSumsFollow index.fields taken bodies (node_on side f) before → slice_get node_sums (node_on side f) ≡ Some before → Takes side body before after difference → HasBorderDifference (file_with index bodies) (IsCompared node_sums) found → HasBorderDifference (file_with index bodies) (IsCompared (set node_sums (node_on side f) after)) (lesser_border found (node_on side f) difference)
 border_taken side index taken bodies f body node_sums found before after difference next is follows there (outer e same one) h =
     let still : after.left ≡ before.left = ap (λ (t : NodeSums). t.left) same in
-    subst (λ (d : Option Difference). HasBorderDifference (file_with index bodies) (IsCompared (set node_sums (node_at side f) after)) (lesser_border found (node_at side f) d)) (sym one)
-    (border_stays (file_with index bodies) (IsCompared node_sums) (IsCompared (set node_sums (node_at side f) after)) found (same_on node_sums (node_at side f) before after there (λ z. still ∙ z)) (same_back node_sums (node_at side f) before after there (λ z. sym still ∙ z)) h)
+    subst (λ (d : Option Difference). HasBorderDifference (file_with index bodies) (IsCompared (set node_sums (node_on side f) after)) (lesser_border found (node_on side f) d)) (sym one)
+    (border_stays (file_with index bodies) (IsCompared node_sums) (IsCompared (set node_sums (node_on side f) after)) found (same_on node_sums (node_on side f) before after there (λ z. still ∙ z)) (same_back node_sums (node_on side f) before after there (λ z. sym still ∙ z)) h)
 border_taken side index taken bodies f body node_sums found before after difference next is follows there (more some g low one) h =
-    subst (λ (d : Option Difference). HasBorderDifference (file_with index bodies) (IsCompared (set node_sums (node_at side f) after)) (lesser_border found (node_at side f) d)) (sym one)
-    (border_stays (file_with index bodies) (IsCompared node_sums) (IsCompared (set node_sums (node_at side f) after)) found (same_on node_sums (node_at side f) before after there (λ z. absurd (omega (arith, g.left)))) (same_back node_sums (node_at side f) before after there (λ z. absurd (omega arith))) h)
+    subst (λ (d : Option Difference). HasBorderDifference (file_with index bodies) (IsCompared (set node_sums (node_on side f) after)) (lesser_border found (node_on side f) d)) (sym one)
+    (border_stays (file_with index bodies) (IsCompared node_sums) (IsCompared (set node_sums (node_on side f) after)) found (same_on node_sums (node_on side f) before after there (λ z. absurd (omega (arith, g.left)))) (same_back node_sums (node_on side f) before after there (λ z. absurd (omega arith))) h)
 border_taken side index taken bodies f body node_sums found before after difference next is follows there (last some grown g e same compares) h =
-    let here = eq-eqb (node_at side f) (node_at side f) refl in
-    let done : IsDone index.fields (one_more side taken) (node_at side f) = last_is side index.fields taken (node_at side f) f body before grown next.field here some g e is in
-    border_more (file_with index bodies) (IsCompared node_sums) (IsCompared (set node_sums (node_at side f) after)) found (node_at side f) difference done.inner
-    (adds_node node_sums (node_at side f) before after there (ap (λ (t : NodeSums). t.left) same ∙ e))
-    (compared_nets index (one_more side taken) bodies (node_at side f) grown difference done.none_left (grown_follows side index.fields taken bodies f body (node_at side f) before grown next here g follows) compares)
+    let here = eq-eqb (node_on side f) (node_on side f) refl in
+    let done : IsDone index.fields (one_more side taken) (node_on side f) = last_is side index.fields taken (node_on side f) f body before grown next.field here some g e is in
+    border_more (file_with index bodies) (IsCompared node_sums) (IsCompared (set node_sums (node_on side f) after)) found (node_on side f) difference done.inner
+    (adds_node node_sums (node_on side f) before after there (ap (λ (t : NodeSums). t.left) same ∙ e))
+    (compared_nets index (one_more side taken) bodies (node_on side f) grown difference done.none_left (grown_follows side index.fields taken bodies f body (node_on side f) before grown next here g follows) compares)
     h
 
-pub step_follows : (side : Side) (index : IndexLists) (taken : Taken) (bodies : List BodyLists) (f : PatchField) (body : BodyLists) (before after : AllSumsSeen) → IsNext side index.fields taken bodies f body → TakesAt side (node_at side f) body before after → AreAllSums index taken before → AllSumsFollow index taken bodies before → AllSumsFollow index (one_more side taken) bodies after
+pub step_follows : (side : Side) (index : IndexLists) (taken : Taken) (bodies : List BodyLists) (f : PatchField) (body : BodyLists) (before after : AllSumsSeen) → IsNext side index.fields taken bodies f body → TakesAt side (node_on side f) body before after → AreAllSums index taken before → AllSumsFollow index taken bodies before → AllSumsFollow index (one_more side taken) bodies after
 step_follows side index taken bodies f body before after next takes is h =
-    let node : ℕ = node_at side f in
+    let node : ℕ = node_on side f in
     let old_is = is.are_node_sums node takes.old_sums takes.there in
     let old_follows = h.node_sums node takes.old_sums takes.there in
     record {

@@ -8,10 +8,11 @@ use Rattle.file_model.specs.Lists.{BodyLists, IndexLists}
 use Rattle.file_model.specs.Rules.{IsIndex}
 use Rattle.mesh_model.specs.Graph.{leads_from}
 use Rattle.edge_chain.specs.Chains.{Chain}
-use Rattle.dag_check.specs.declared.sides.Side.{Side}
-use Rattle.dag_check.specs.declared.sides.Side.TheVariants.{Incoming, Outgoing}
+use Rattle.mesh_model.specs.declared.sides.Side.{Side}
+use Rattle.mesh_model.specs.declared.sides.Side.TheVariants.{Incoming, Outgoing}
 use Rattle.dag_check.specs.Added.{AddsToBase}
-use Rattle.dag_check.specs.NodeSums.{node_at, Taken, taken_on, taken_both, one_more, chain_on}
+use Rattle.mesh_model.specs.Sides.{node_on}
+use Rattle.dag_check.specs.NodeSums.{Taken, taken_on, taken_both, one_more, chain_on}
 use Rattle.dag_check.specs.AllNodeSums.{AllSumsSeen, IsSummed, IsReady, TakesAt, AreAllSums}
 use Rattle.dag_check.specs.Checkers.{CheckerSeen, IsChecker, Follows}
 use Rattle.dag_check.proofs.AddedLaws.{first_triangles-suc, along}
@@ -31,9 +32,9 @@ summed_of index taken all_sums rules low h = record {
   kept_pairs = h.kept_pairs;
 }
 
-pub ready_of : (side : Side) (index : IndexLists) (taken : Taken) (f : PatchField) (all_sums : AllSumsSeen) → slice_get index.fields (taken_on side taken) ≡ Some f → AreAllSums index taken all_sums → IsReady (node_at side f) all_sums.node_sums
+pub ready_of : (side : Side) (index : IndexLists) (taken : Taken) (f : PatchField) (all_sums : AllSumsSeen) → slice_get index.fields (taken_on side taken) ≡ Some f → AreAllSums index taken all_sums → IsReady (node_on side f) all_sums.node_sums
 ready_of side index taken f all_sums at h t there =
-    is_ready side index.fields taken (node_at side f) f t at (eq-eqb (node_at side f) (node_at side f) refl) (h.are_node_sums (node_at side f) t there)
+    is_ready side index.fields taken (node_on side f) f t at (eq-eqb (node_on side f) (node_on side f) refl) (h.are_node_sums (node_on side f) t there)
 
 pub low_at_first : (checker : CheckerSeen) → IsChecker checker → (s : Side) → taken_on s (taken_both checker.next) ≤ 65536
 low_at_first checker is Incoming = omega (arith, is.within, few_patches checker.index is.rules)

@@ -12,9 +12,10 @@ use Rattle.mesh_model.specs.Graph.{patches_from, leads_to, leads_from}
 use Rattle.mesh_model.specs.Nets.{one_if}
 use Rattle.mesh_model.specs.Accepted.{is_inner}
 use Rattle.mesh_model.specs.Frames.{triangles_where}
-use Rattle.dag_check.specs.declared.sides.Side.{Side}
-use Rattle.dag_check.specs.declared.sides.Side.TheVariants.{Incoming, Outgoing}
-use Rattle.dag_check.specs.NodeSums.{how_many, is_on, Taken, taken_on, taken_both, one_more, to_come}
+use Rattle.mesh_model.specs.declared.sides.Side.{Side}
+use Rattle.mesh_model.specs.declared.sides.Side.TheVariants.{Incoming, Outgoing}
+use Rattle.mesh_model.specs.Sides.{is_on}
+use Rattle.dag_check.specs.NodeSums.{how_many, Taken, taken_on, taken_both, one_more, to_come}
 
 pub how_many-cons : {X : Type 0} → (test : X → Bool) (x : X) (xs : List X) → how_many test (x ∷ xs) ≡ one_if (test x) + how_many test xs
 unfolding how_many

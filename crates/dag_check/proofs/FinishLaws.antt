@@ -19,10 +19,11 @@ use Rattle.mesh_graph.specs.ListReads.{slice_get-there}
 use Rattle.edge_chain.specs.Chains.{IsNetOf}
 use Rattle.dag_check.specs.declared.node_sums.NodeSums.{NodeSums}
 use Rattle.dag_check.specs.declared.borders.BorderDifference.{BorderDifference}
-use Rattle.dag_check.specs.declared.sides.Side.TheVariants.{Incoming, Outgoing}
+use Rattle.mesh_model.specs.declared.sides.Side.TheVariants.{Incoming, Outgoing}
 use Rattle.dag_check.specs.Added.{first_triangles, file_with}
 use Rattle.dag_check.specs.Borders.{border_of, IsLeastBorder, HasBorderDifference}
-use Rattle.dag_check.specs.NodeSums.{how_many, is_on, taken_both, to_come}
+use Rattle.mesh_model.specs.Sides.{is_on}
+use Rattle.dag_check.specs.NodeSums.{how_many, taken_both, to_come}
 use Rattle.dag_check.specs.AllNodeSums.{AllSumsSeen, AreAllSums, IsCompared}
 use Rattle.dag_check.specs.Checkers.{CheckerSeen, IsChecker, Follows}
 use Rattle.dag_check.proofs.AddedLaws.{along}

@@ -8,11 +8,12 @@ use Rattle.mesh_model.specs.Nets.{HaveOneNet}
 use Rattle.mesh_model.specs.Accepted.{triangles_to, triangles_out_of}
 use Rattle.edge_chain.specs.declared.differences.Difference.{Difference}
 use Rattle.edge_chain.specs.Chains.{Chain, IsNetOf, IsFirstNetDifference}
-use Rattle.dag_check.specs.declared.sides.Side.{Side}
-use Rattle.dag_check.specs.declared.sides.Side.TheVariants.{Incoming, Outgoing}
+use Rattle.mesh_model.specs.declared.sides.Side.{Side}
+use Rattle.mesh_model.specs.declared.sides.Side.TheVariants.{Incoming, Outgoing}
 use Rattle.dag_check.specs.declared.node_sums.NodeSums.{NodeSums}
 use Rattle.dag_check.specs.Added.{first_triangles, only_if, file_with}
-use Rattle.dag_check.specs.NodeSums.{is_on, other, Taken, taken_on, one_more, to_come, chain_on, IsGrown, Compares, Takes, outer, more, last, AreNodeSums, NodeSumsFollow}
+use Rattle.mesh_model.specs.Sides.{is_on}
+use Rattle.dag_check.specs.NodeSums.{other, Taken, taken_on, one_more, to_come, chain_on, IsGrown, Compares, Takes, outer, more, last, AreNodeSums, NodeSumsFollow}
 use Rattle.dag_check.proofs.AddedLaws.{first_triangles-suc, along}
 use Rattle.dag_check.proofs.CountLaws.{all_taken}
 use Rattle.dag_check.proofs.NodeSumLaws.{by_side, taken_same, taken_other, left-le-total}

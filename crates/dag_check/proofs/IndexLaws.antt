@@ -10,8 +10,9 @@ use Rattle.file_model.specs.Rules.{IsIndex, is_field, has_ends, has_counts}
 use Rattle.mesh_model.specs.Graph.{incoming, outgoing, leads_to, leads_from}
 use Rattle.mesh_graph.specs.NearGrid.{each_passes}
 use Rattle.mesh_graph.specs.Graphs.{GraphSeen, IsGraphOf, index_of}
-use Rattle.dag_check.specs.declared.sides.Side.TheVariants.{Incoming, Outgoing}
-use Rattle.dag_check.specs.NodeSums.{how_many, is_on}
+use Rattle.mesh_model.specs.declared.sides.Side.TheVariants.{Incoming, Outgoing}
+use Rattle.mesh_model.specs.Sides.{is_on}
+use Rattle.dag_check.specs.NodeSums.{how_many}
 use Rattle.dag_check.proofs.CountLaws.{length-patches, how_many-le}
 
 -- the patch leads from a node to a node

@@ -10,12 +10,13 @@ use Rattle.std.proofs.lemmas.Map.Entries.{length-keys_of}
 use Rattle.file_model.specs.Lists.{BodyLists, IndexLists}
 use Rattle.edge_chain.specs.Chains.{Chain, IsNetOf}
 use Rattle.edge_chain.specs.NetLaws.{open_from_net}
-use Rattle.dag_check.specs.declared.sides.Side.{Side}
-use Rattle.dag_check.specs.declared.sides.Side.TheVariants.{Incoming, Outgoing}
+use Rattle.mesh_model.specs.declared.sides.Side.{Side}
+use Rattle.mesh_model.specs.declared.sides.Side.TheVariants.{Incoming, Outgoing}
 use Rattle.dag_check.specs.declared.node_sums.NodeSums.{NodeSums}
 use Rattle.dag_check.specs.Added.{first_triangles}
 use Rattle.dag_check.specs.Open.{AreKept, KeepsPairs}
-use Rattle.dag_check.specs.NodeSums.{is_on, taken_on, taken_both, chain_on, is_under_way, AreDropped}
+use Rattle.mesh_model.specs.Sides.{is_on}
+use Rattle.dag_check.specs.NodeSums.{taken_on, taken_both, chain_on, is_under_way, AreDropped}
 use Rattle.dag_check.specs.AllNodeSums.{AllSumsSeen, AreAllSums, AllSumsFollow}
 use Rattle.dag_check.proofs.OpenLaws.{open_same}
 

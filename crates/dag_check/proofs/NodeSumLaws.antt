@@ -9,11 +9,12 @@ use Rattle.mesh_model.specs.Accepted.{is_inner}
 use Rattle.edge_chain.specs.declared.differences.Difference.{Difference}
 use Rattle.edge_chain.specs.Chains.{Chain, IsNetOf}
 use Rattle.edge_chain.specs.NetLaws.{net-nil}
-use Rattle.dag_check.specs.declared.sides.Side.{Side}
-use Rattle.dag_check.specs.declared.sides.Side.TheVariants.{Incoming, Outgoing}
+use Rattle.mesh_model.specs.declared.sides.Side.{Side}
+use Rattle.mesh_model.specs.declared.sides.Side.TheVariants.{Incoming, Outgoing}
 use Rattle.dag_check.specs.declared.node_sums.NodeSums.{NodeSums}
 use Rattle.dag_check.specs.Added.{Grows}
-use Rattle.dag_check.specs.NodeSums.{is_on, other, Taken, taken_on, taken_both, one_more, to_come, if_inner, empty_chain, chain_on, IsGrown, settled, Takes, outer, more, last, IsSum, AreNodeSums}
+use Rattle.mesh_model.specs.Sides.{is_on}
+use Rattle.dag_check.specs.NodeSums.{other, Taken, taken_on, taken_both, one_more, to_come, if_inner, empty_chain, chain_on, IsGrown, settled, Takes, outer, more, last, IsSum, AreNodeSums}
 use Rattle.dag_check.proofs.CountLaws.{to_come-step, to_come-le}
 
 -- what holds on one side and on the other holds on each

@@ -10,10 +10,11 @@ use Rattle.file_model.specs.Lists.{IndexLists}
 use Rattle.mesh_model.specs.Graph.{numbers_from, leads_to, leads_from}
 use Rattle.mesh_model.specs.Nets.{one_if}
 use Rattle.mesh_model.specs.Accepted.{is_inner}
-use Rattle.dag_check.specs.declared.sides.Side.TheVariants.{Incoming, Outgoing}
+use Rattle.mesh_model.specs.declared.sides.Side.TheVariants.{Incoming, Outgoing}
 use Rattle.dag_check.specs.declared.node_sums.NodeSums.{NodeSums}
 use Rattle.dag_check.specs.Open.{touches, is_open, open_nodes}
-use Rattle.dag_check.specs.NodeSums.{how_many, is_on, taken_both, is_under_way, AreNodeSums}
+use Rattle.mesh_model.specs.Sides.{is_on}
+use Rattle.dag_check.specs.NodeSums.{how_many, taken_both, is_under_way, AreNodeSums}
 use Rattle.dag_check.specs.AllNodeSums.{AllSumsSeen, AreAllSums}
 use Rattle.dag_check.proofs.CountLaws.{how_many-cons, how_many-split, length_step}
 

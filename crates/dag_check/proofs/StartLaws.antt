@@ -6,13 +6,14 @@ use Rattle.file_model.specs.declared.fields.PatchField.{PatchField}
 use Rattle.file_model.specs.Lists.{BodyLists, IndexLists}
 use Rattle.mesh_model.specs.Nets.{one_if}
 use Rattle.mesh_model.specs.Accepted.{is_inner}
-use Rattle.dag_check.specs.declared.sides.Side.{Side}
-use Rattle.dag_check.specs.declared.sides.Side.TheVariants.{Incoming, Outgoing}
+use Rattle.mesh_model.specs.declared.sides.Side.{Side}
+use Rattle.mesh_model.specs.declared.sides.Side.TheVariants.{Incoming, Outgoing}
 use Rattle.dag_check.specs.declared.node_sums.NodeSums.{NodeSums}
 use Rattle.dag_check.specs.declared.borders.BorderDifference.{BorderDifference}
 use Rattle.dag_check.specs.Added.{file_with}
 use Rattle.dag_check.specs.Borders.{HasBorderDifference}
-use Rattle.dag_check.specs.NodeSums.{is_on, taken_on, taken_both, to_come, inner_patches, empty_node_sums, chain_on, is_under_way, pairs_of, IsSum, AreNodeSums, NodeSumsFollow}
+use Rattle.mesh_model.specs.Sides.{is_on}
+use Rattle.dag_check.specs.NodeSums.{taken_on, taken_both, to_come, inner_patches, empty_node_sums, chain_on, is_under_way, pairs_of, IsSum, AreNodeSums, NodeSumsFollow}
 use Rattle.dag_check.specs.AllNodeSums.{AllSumsSeen, IsNew, AreAllSums, IsCompared, AllSumsFollow}
 use Rattle.dag_check.proofs.AddedLaws.{first_triangles-zero, along}
 use Rattle.dag_check.proofs.CountLaws.{inner_has}

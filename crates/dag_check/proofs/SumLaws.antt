@@ -11,8 +11,8 @@ use Rattle.mesh_model.specs.Nets.{one_if}
 use Rattle.edge_chain.specs.declared.differences.Difference.{Difference}
 use Rattle.edge_chain.specs.Chains.{Chain}
 use Rattle.edge_chain.specs.NetLaws.{open_from_net}
-use Rattle.dag_check.specs.declared.sides.Side.{Side}
-use Rattle.dag_check.specs.declared.sides.Side.TheVariants.{Incoming, Outgoing}
+use Rattle.mesh_model.specs.declared.sides.Side.{Side}
+use Rattle.mesh_model.specs.declared.sides.Side.TheVariants.{Incoming, Outgoing}
 use Rattle.dag_check.specs.declared.node_sums.NodeSums.{NodeSums}
 use Rattle.dag_check.specs.NodeSums.{taken_on, taken_both, one_more, chain_on, is_under_way, pairs_of, Takes, outer, more, last, IsSum}
 use Rattle.dag_check.specs.AllNodeSums.{AllSumsSeen, under_way, pairs_in_all, IsSummed}

@@ -5,7 +5,7 @@ use Rattle.file_model.specs.declared.fields.PatchField.{PatchField}
 use Rattle.file_model.specs.Lists.{BodyLists, IndexLists}
 use Rattle.mesh_model.specs.Nets.{one_if}
 use Rattle.edge_chain.specs.declared.differences.Difference.{Difference}
-use Rattle.dag_check.specs.declared.sides.Side.{Side}
+use Rattle.mesh_model.specs.declared.sides.Side.{Side}
 use Rattle.dag_check.specs.declared.node_sums.NodeSums.{NodeSums}
 use Rattle.dag_check.specs.declared.borders.BorderDifference.{BorderDifference}
 use Rattle.dag_check.specs.declared.all_node_sums.AllNodeSums.{AllNodeSums}

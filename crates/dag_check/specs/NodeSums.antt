@@ -1,26 +1,18 @@
 -- What is kept of a node, and how a body changes it.
-use Rattle.std.specs.Prelude.{◌≡◌, ℕ, ◌+◌, ◌*◌, ◌≤◌, ◌<◌, ◌==◌, Bool, false, ◌&&◌, List, [], length, drop, nat_lt, Option, None, MatchOption, if◌then◌else◌}
+use Rattle.std.specs.Prelude.{◌≡◌, ℕ, ◌+◌, ◌*◌, ◌≤◌, ◌<◌, Bool, false, ◌&&◌, List, [], length, drop, nat_lt, Option, None, MatchOption, if◌then◌else◌}
 use Rattle.std.specs.List.{sum_by}
 use Rattle.grid_vertex.specs.declared.triangles.Triangle.{Triangle}
 use Rattle.file_model.specs.declared.fields.PatchField.{PatchField}
 use Rattle.file_model.specs.Lists.{BodyLists}
 use Rattle.mesh_model.specs.Nets.{one_if, HaveOneNet}
 use Rattle.mesh_model.specs.Accepted.{is_inner}
+use Rattle.mesh_model.specs.Sides.{is_on}
 use Rattle.edge_chain.specs.declared.differences.Difference.{Difference}
 use Rattle.edge_chain.specs.Chains.{Chain, IsNetOf, IsFirstNetDifference}
-use Rattle.dag_check.specs.declared.sides.Side.{Side}
-use Rattle.dag_check.specs.declared.sides.Side.TheVariants.{Incoming, Outgoing}
+use Rattle.mesh_model.specs.declared.sides.Side.{Side}
+use Rattle.mesh_model.specs.declared.sides.Side.TheVariants.{Incoming, Outgoing}
 use Rattle.dag_check.specs.declared.node_sums.NodeSums.{NodeSums}
 use Rattle.dag_check.specs.Added.{Grows, first_triangles}
-
--- the node on whose side the patch is
-abbrev pub node_at : Side → PatchField → ℕ
-node_at Incoming f = f.head
-node_at Outgoing f = f.tail
-
--- the patch is on this side of the node
-abbrev pub is_on : Side → ℕ → PatchField → Bool
-is_on side v f = node_at side f == v
 
 abbrev pub other : Side → Side
 other Incoming = Outgoing

@@ -7,9 +7,9 @@ ghost use Rattle.dag_check.specs.AllNodeSums.{all_sums_of, IsNew, IsSummed, IsRe
 use crate::borders::{BorderDifference, least_border};
 use crate::inner::new_node_sums;
 use crate::node_sums::NodeSums;
-use crate::sides::Side;
 use grid_vertex::NoMemory;
 use mesh_graph::MeshGraph;
+use mesh_model::Side;
 use patch_file::{Body, Index};
 use std::alloc::Global;
 

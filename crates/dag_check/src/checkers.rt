@@ -3,12 +3,11 @@
 use crate::adding::add_to_base;
 use crate::all_node_sums::{AllNodeSums, empty_all_sums};
 use crate::borders::border;
-use crate::sides::Side;
 use accepted_mesh::Mesh;
 use edge_chain::EdgeChain;
 use grid_vertex::NoMemory;
 use mesh_graph::MeshGraph;
-use mesh_model::DagFault;
+use mesh_model::{DagFault, Side};
 use patch_file::{Body, Index};
 use std::alloc::Global;
 use std::marker::Model;

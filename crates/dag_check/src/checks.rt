@@ -1,14 +1,15 @@
 //! Checking a patch file from its store.
 
-ghost use Rattle.std.specs.Prelude.{◌≡◌, ◌≤◌, length, Ok, IfOk, IfErr, IfSome};
-ghost use Rattle.file_model.specs.Answers.{FailsOnlyIf};
+ghost use Rattle.std.specs.Prelude.{◌≡◌, length, Ok, IfOk, IfErr, IfSome};
+ghost use Rattle.file_model.specs.declared.refusals.ReadRefusal.TheVariants as reads;
 ghost use Rattle.file_model.specs.Lists.{bodies_size};
 ghost use Rattle.file_model.specs.Reading.{index_in, file_in};
 ghost use Rattle.mesh_model.specs.Meshes.{IsMesh};
-ghost use Rattle.view_outside.specs.Faults.{Rose};
-ghost use Rattle.view_outside.specs.Files.{HasFile, file_bytes};
-ghost use Rattle.view_outside.specs.Taken.{taken_after};
-ghost use Rattle.dag_check.specs.Checks.{bodies_behind, FollowsBodies, FollowsFile, Checks, ChecksOnlyIf};
+ghost use Rattle.view_outside.specs.Files.{HasFile, TellsBytes, file_bytes};
+ghost use Rattle.view_outside.specs.OnlyRead.{OnlyIf, OnlyRead};
+ghost use Rattle.view_outside.specs.Taken.{taken_after, RisesAtMost};
+ghost use Rattle.dag_check.specs.Checks.{bodies_behind, FollowsBodies, FollowsFile, Checks};
+ghost use Rattle.dag_check.specs.declared.refusals.CheckRefusal.TheVariants as checks;
 
 use crate::checkers::Checker;
 use crate::refusals::CheckRefusal;
@@ -30,11 +31,12 @@ fn read_bodies<S: Store>(
     ensures index { IfOk result (λ checker. checker.index ≡ index) }
     ensures all { IfOk result (λ checker. checker.next ≡ length index.fields) }
 
-    ensures kept { S.files store.new ≡ S.files store.old }
-    ensures later { S.faults store.old ≤ S.faults store.new }
-    ensures cause { IfErr result (FailsOnlyIf (Rose (S.faults store.old) (S.faults store.new))) }
+    ensures store { OnlyRead reads.ReadFault (S.files store.old) (S.files store.new)
+        (S.faults store.old) (S.faults store.new) result }
     ensures taken { IfOk result (λ _. S.taken store.new
         ≡ taken_after (S.taken store.old) (bodies_size index.version index.fields)) }
+    ensures cut { IfErr result (OnlyIf reads.ReadFault (RisesAtMost (S.taken store.old) (S.taken store.new)
+        (bodies_size index.version index.fields))) }
 {
     let patches = index.patch_count();
     let mut checker = Checker::begin(alloc, index)?;
@@ -55,14 +57,16 @@ fn read_rest<S: Store>(
     requires file { HasFile (S.files store.old) file }
     requires told { IfSome (file_bytes (S.files store.old) file) (λ bytes. index_in bytes ≡ Ok index) }
     ensures told { IfSome (file_bytes (S.files store.old) file) (λ bytes. FollowsFile result (file_in bytes)) }
+    ensures bytes { IfOk result (λ _. TellsBytes (S.files store.old) file) }
     ensures index { IfOk result (λ checker. checker.index ≡ index) }
     ensures all { IfOk result (λ checker. checker.next ≡ length index.fields) }
 
-    ensures kept { S.files store.new ≡ S.files store.old }
-    ensures later { S.faults store.old ≤ S.faults store.new }
-    ensures cause { IfErr result (FailsOnlyIf (Rose (S.faults store.old) (S.faults store.new))) }
+    ensures store { OnlyRead reads.ReadFault (S.files store.old) (S.files store.new)
+        (S.faults store.old) (S.faults store.new) result }
     ensures taken { IfOk result (λ _. S.taken store.new
         ≡ taken_after (S.taken store.old) (bodies_size index.version index.fields)) }
+    ensures cut { IfErr result (OnlyIf reads.ReadFault (RisesAtMost (S.taken store.old) (S.taken store.new)
+        (bodies_size index.version index.fields))) }
 {
     let checker = read_bodies(alloc, index, store, file)?;
     match read_end(checker.index(), store, file) {
@@ -87,11 +91,12 @@ pub fn check<S: Store>(
     ensures index { IfOk result (λ mesh. mesh.lists.index ≡ index) }
     ensures facts { IfOk result (λ mesh. IsMesh mesh.lists) }
 
-    ensures kept { S.files store.new ≡ S.files store.old }
-    ensures later { S.faults store.old ≤ S.faults store.new }
-    ensures cause { IfErr result (ChecksOnlyIf (Rose (S.faults store.old) (S.faults store.new))) }
+    ensures store { OnlyRead checks.ReadFault (S.files store.old) (S.files store.new)
+        (S.faults store.old) (S.faults store.new) result }
     ensures taken { IfOk result (λ _. S.taken store.new
         ≡ taken_after (S.taken store.old) (bodies_size index.version index.fields)) }
+    ensures cut { IfErr result (OnlyIf checks.ReadFault (RisesAtMost (S.taken store.old) (S.taken store.new)
+        (bodies_size index.version index.fields))) }
 {
     let checker = read_rest(alloc, index, store, file)?;
     Ok(checker.finish()?)

@@ -11,7 +11,6 @@ mod checks;
 mod inner;
 mod node_sums;
 mod refusals;
-mod sides;
 
 pub use accepted_mesh::Mesh;
 pub use checkers::Checker;

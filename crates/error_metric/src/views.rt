@@ -11,13 +11,8 @@ use crate::scores::score_of_node;
 use crate::wants::Want;
 use accepted_mesh::Mesh;
 use grid_vertex::Point;
+use round_model::{EYE_REACH, GREATEST_FOCAL, GREATEST_THRESHOLD};
 use std::marker::Model;
-
-// How far from 0 a coordinate of an eye is at most.
-const REACH: u32 = 2_097_152;
-
-// The greatest focal number, and the greatest threshold.
-const MOST: u32 = 65_536;
 
 /// An eye, a focal number, a threshold and a limit, each in its range.
 #[derive(Clone, Copy, Debug, PartialEq, Eq)]
@@ -43,30 +38,30 @@ impl Model for View {
 
 // Whether the coordinate is in an eye's range.
 fn is_in_reach(coordinate: i32) -> bool
-    ensures { result ≡ is_within 2097152 coordinate }
+    ensures { result ≡ is_within EYE_REACH coordinate }
 {
-    coordinate.unsigned_abs() <= REACH
+    coordinate.unsigned_abs() <= EYE_REACH
 }
 
 // Whether each coordinate is in an eye's range.
 fn is_eye(point: Point) -> bool
-    ensures { result ≡ is_point_within 2097152 point }
+    ensures { result ≡ is_point_within EYE_REACH point }
 {
     is_in_reach(point.x) && is_in_reach(point.y) && is_in_reach(point.z)
 }
 
-// Whether a focal number or a threshold is in its range.
-fn is_in_range(number: u32) -> bool
-    ensures { result ≡ is_between 1 65536 number }
+// Whether the number is in 1 to the greatest one.
+fn is_in_range(number: u32, greatest: u32) -> bool
+    ensures { result ≡ is_between 1 greatest number }
 {
-    1 <= number && number <= MOST
+    1 <= number && number <= greatest
 }
 
 // Whether each number of a view is in its range.
 fn are_in_range(eye: Point, focal: u32, threshold: u32) -> bool
     ensures { result ≡ is_view eye focal threshold }
 {
-    is_eye(eye) && is_in_range(focal) && is_in_range(threshold)
+    is_eye(eye) && is_in_range(focal, GREATEST_FOCAL) && is_in_range(threshold, GREATEST_THRESHOLD)
 }
 
 impl View {

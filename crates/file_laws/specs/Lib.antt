@@ -6,3 +6,6 @@ pub mod Points
 pub mod Bodies
 pub mod Indexes
 pub mod Files
+pub mod BodyFaults
+pub mod Appended
+pub mod Growing

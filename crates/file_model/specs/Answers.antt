@@ -16,12 +16,6 @@ abbrev pub Gives : {X Y : Type 0} → (X → Y) → Result X ReadRefusal → Res
 Gives view (Ok x) read = read ≡ Ok (view x)
 Gives view (Err refusal) read = Refuses refusal read
 
--- the refusal is the store's failure only where the fact holds
-abbrev pub FailsOnlyIf : Type 0 → ReadRefusal → Type 0
-FailsOnlyIf fact (File fault) = Unit {0}
-FailsOnlyIf fact ReadFault = fact
-FailsOnlyIf fact Memory = Unit {0}
-
 -- a refusal that isn't want of memory
 abbrev pub IsNotMemory : ReadRefusal → Type 0
 IsNotMemory (File fault) = Unit {0}

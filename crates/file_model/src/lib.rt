@@ -6,8 +6,10 @@
 
 mod faults;
 mod fields;
+mod limits;
 mod refusals;
 
 pub use faults::FileFault;
 pub use fields::{Node, PatchField, Try, is_granted};
+pub use limits::{MOST_IN_PATCH, MOST_NODES, MOST_PATCHES};
 pub use refusals::{ReadRefusal, WriteFault};

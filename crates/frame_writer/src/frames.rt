@@ -10,9 +10,10 @@ ghost use Rattle.frame_writer.specs.Appending.{Begins};
 ghost use Rattle.frame_writer.specs.Frames.{AreBodiesOf, AddsFrame, frame_of, triangles_in};
 
 use crate::bodies::{edges_of, write_bodies};
-use crate::lines::{add_line, begin_line, end_line};
+use crate::lines::{begin_line, end_line, write_line};
 use crate::parts::Part;
-use crate::words::{add_numbers, add_tries};
+use crate::refused::undo_if_refused;
+use crate::words::{write_number_words, write_try_words};
 use edge_chain::EdgeChain;
 use grid_vertex::NoMemory;
 use patch_file::{Body, Try};
@@ -48,7 +49,7 @@ fn write_head(
         Part::Word("open"),
         Part::Number(chain.open_edges()),
     ];
-    add_line(alloc, "frame", &counts, out)
+    write_line(alloc, "frame", &counts, out)
 }
 
 /// Appends the line of this word and these numbers.
@@ -63,7 +64,7 @@ fn write_numbers(
     ensures err { OnErr result (Begins out.old.items out.new.items) }
 {
     begin_line(alloc, word, out)?;
-    add_numbers(alloc, numbers, out)?;
+    write_number_words(numbers, out)?;
     end_line(alloc, out)
 }
 
@@ -74,12 +75,12 @@ fn write_tries(alloc: Global, tries: &[Try], out: &mut Vec<u8>) -> Result<(), No
     ensures err { OnErr result (Begins out.old.items out.new.items) }
 {
     begin_line(alloc, "tries", out)?;
-    add_tries(alloc, tries, out)?;
+    write_try_words(tries, out)?;
     end_line(alloc, out)
 }
 
-/// Appends the frame's text. Its open edges are counted in the sums of its triangles' edges.
-pub fn frame_text(
+/// Appends the frame's text, or a beginning of it.
+fn write_frame(
     alloc: Global,
     session: u32,
     number: u64,
@@ -103,4 +104,29 @@ pub fn frame_text(
     write_tries(alloc, tries, out)?;
     write_numbers(alloc, "patches", patches, out)?;
     write_bodies(bodies, out)
+}
+
+/// Appends the frame's text. Its open edges are counted in the sums of its triangles' edges. A call that is
+/// refused leaves the text as it was.
+pub fn frame_text(
+    alloc: Global,
+    session: u32,
+    number: u64,
+    cut: &[u32],
+    tries: &[Try],
+    patches: &[u32],
+    bodies: &[Arc<Body>],
+    out: &mut Vec<u8>,
+) -> Result<(), NoMemory>
+    requires begins { begins_line out.old.items ≡ true }
+    requires count { length patches.now ≤ 65536 }
+    requires bodies { AreBodiesOf patches.now (map arc_value bodies.now) }
+    ensures ok { OnOk result (AddsFrame out.old.items out.new.items
+        (frame_of session number cut.now tries.now patches.now (map arc_value bodies.now))) }
+    ensures ended { OnOk result (begins_line out.new.items ≡ true) }
+    ensures err { OnErr result (out.new.items ≡ out.old.items) }
+{
+    let length = out.len();
+    let written = write_frame(alloc, session, number, cut, tries, patches, bodies, out);
+    undo_if_refused(written, length, out)
 }

@@ -5,12 +5,10 @@ use crate::{
 };
 use grid_vertex::Point;
 use patch_file::{Body, Try, WriteFault};
+use sample_files::SQUARE_BASE;
 use std::sync::Arc;
 use std::test::Fail;
 use view_outside::MemorySink;
-
-const SQUARE: &[u8] =
-    b"frame 0 1 nodes 1 patches 1 triangles 2 open 4\ncut 0\ntries\npatches 0\n0 0 0 4 0 0 4 4 0\n0 0 0 4 4 0 0 4 0\n";
 
 #[test]
 #[tactic(auto, unfolding(file_model::specs::Rules::is_body, file_model::specs::Lists::triangle_of, file_model::specs::Lists::point_at_place, grid_vertex::specs::Triangles::is_flat_triangle))]
@@ -34,7 +32,7 @@ fn frame_of_a_square(rt: HostRuntime) -> Result<(), Fail> {
         &[Arc::new(alloc, body)?],
         &mut out,
     )?;
-    assert_eq!(rt; out.as_slice(), SQUARE);
+    assert_eq!(rt; out.as_slice(), SQUARE_BASE.as_bytes());
     Ok(())
 }
 
@@ -69,10 +67,13 @@ fn parts_of_lines(rt: HostRuntime) -> Result<(), Fail> {
 fn a_full_sink(rt: HostRuntime) -> Result<(), Fail> {
     let alloc = rt.alloc();
     let mut sink = MemorySink::with_room(alloc, 10, 7, Vec::new(alloc))?;
-    assert_eq!(rt; write_text(SQUARE, &mut sink), Err(WriteFault));
+    assert_eq!(rt;
+        write_text(SQUARE_BASE.as_bytes(), &mut sink),
+        Err(WriteFault)
+    );
     assert_eq!(rt; sink.bytes(), b"frame 0 1 ".as_slice());
     let mut sink = MemorySink::with_room(alloc, 200, 7, Vec::new(alloc))?;
-    assert_eq!(rt; write_text(SQUARE, &mut sink), Ok(()));
-    assert_eq!(rt; sink.bytes(), SQUARE);
+    assert_eq!(rt; write_text(SQUARE_BASE.as_bytes(), &mut sink), Ok(()));
+    assert_eq!(rt; sink.bytes(), SQUARE_BASE.as_bytes());
     Ok(())
 }

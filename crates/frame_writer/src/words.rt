@@ -5,30 +5,29 @@ ghost use Rattle.text_model.specs.FrameText.{try_text};
 ghost use Rattle.text_model.specs.Lines.{Adds, spaced, decimals};
 ghost use Rattle.frame_writer.specs.Appending.{Begins};
 
-use crate::lines::add_part;
+use crate::lines::write_spaced;
 use crate::parts::Part;
 use grid_vertex::NoMemory;
 use patch_file::Try;
-use std::alloc::Global;
 
-/// Appends the numbers, each behind a space.
-pub fn add_numbers(alloc: Global, numbers: &[u32], out: &mut Vec<u8>) -> Result<(), NoMemory>
+/// Appends the numbers, each behind a space, or a beginning of that.
+pub fn write_number_words(numbers: &[u32], out: &mut Vec<u8>) -> Result<(), NoMemory>
     ensures ok { OnOk result (Adds out.old.items out.new.items (spaced (decimals numbers.now))) }
     ensures err { OnErr result (Begins out.old.items out.new.items) }
 {
     for number in numbers {
-        add_part(alloc, Part::Number(u64::from(*number)), out)?;
+        write_spaced(Part::Number(u64::from(*number)), out)?;
     }
     Ok(())
 }
 
-/// Appends the answers, each behind a space.
-pub fn add_tries(alloc: Global, tries: &[Try], out: &mut Vec<u8>) -> Result<(), NoMemory>
+/// Appends the answers, each behind a space, or a beginning of that.
+pub fn write_try_words(tries: &[Try], out: &mut Vec<u8>) -> Result<(), NoMemory>
     ensures ok { OnOk result (Adds out.old.items out.new.items (spaced (map try_text tries.now))) }
     ensures err { OnErr result (Begins out.old.items out.new.items) }
 {
     for answer in tries {
-        add_part(alloc, Part::Answer(*answer), out)?;
+        write_spaced(Part::Answer(*answer), out)?;
     }
     Ok(())
 }

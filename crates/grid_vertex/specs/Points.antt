@@ -2,6 +2,7 @@
 use Rattle.std.specs.Prelude.{ℕ, ◌+◌, ◌*◌, Bool, ◌&&◌, ℤ, ◌-ℤ◌, nat_le, unsigned_abs, IsTrue}
 use Rattle.std.specs.Ordering.{int_eq}
 use Rattle.grid_vertex.specs.declared.points.Point.{Point}
+use Rattle.grid_vertex.specs.declared.points.measures.TheConstants.{GRID}
 
 -- z is in -limit to limit
 abbrev pub is_within : ℕ → ℤ → Bool
@@ -13,7 +14,7 @@ is_point_within limit p = is_within limit p.x && is_within limit p.y && is_withi
 
 -- the grid of a patch file
 abbrev pub is_in_grid : Point → Bool
-is_in_grid p = is_point_within 1048576 p
+is_in_grid p = is_point_within GRID p
 
 -- near enough to the grid for its distances, as an eye is
 abbrev pub IsNearGrid : Point → Type 0

@@ -11,7 +11,7 @@ mod triangles;
 
 pub use balls::{Ball, contains};
 pub use memory::NoMemory;
-pub use points::{Point, distance_squared, in_grid};
+pub use points::{GRID, Point, distance_squared, in_grid};
 pub use roots::isqrt;
 pub use triangles::Triangle;
 

@@ -10,4 +10,4 @@ pub struct Point {
 
 mod measures;
 
-pub use measures::{distance_squared, in_grid};
+pub use measures::{GRID, distance_squared, in_grid};

@@ -9,9 +9,10 @@ use Rattle.std.proofs.lemmas.List.FromFn.{length-range_with_len, get_or-range_wi
 use Rattle.std.proofs.lemmas.Option.{slice_get_within, slice_get-get_or}
 use Rattle.file_model.specs.declared.fields.PatchField.{PatchField}
 use Rattle.mesh_model.specs.Chosen.{chosen_few}
-use Rattle.mesh_graph.specs.declared.sides.Side.{Side}
-use Rattle.mesh_graph.specs.declared.sides.Side.TheVariants.{Incoming, Outgoing}
-use Rattle.mesh_graph.specs.Sides.{node_on, touches, patches_at}
+use Rattle.mesh_model.specs.declared.sides.Side.{Side}
+use Rattle.mesh_model.specs.declared.sides.Side.TheVariants.{Incoming, Outgoing}
+use Rattle.mesh_model.specs.Sides.{node_on, is_on}
+use Rattle.mesh_graph.specs.Sides.{patches_at}
 use Rattle.mesh_graph.specs.Adjacency.{IsAdjacency}
 use Rattle.mesh_graph.specs.Chains.{HaveNodes}
 use Rattle.mesh_graph.specs.Levels.{IsOpen, HasOpenParent, AreLevels, IsLevelOver, IsNextLevel, head_of}
@@ -32,7 +33,7 @@ pub record IsAmong (side : Side) (fields : List PatchField) (v p : ℕ) : Type 0
 
 pub among : (side : Side) (fields : List PatchField) (v p : ℕ) → Contains (patches_at side fields v) p → IsAmong side fields v p
 among side fields v p h =
-    let is : IsPassing (touches side v) fields 0 p = passing_from (touches side v) fields 0 p h in
+    let is : IsPassing (is_on side v) fields 0 p = passing_from (is_on side v) fields 0 p h in
     let place : p ≡ is.place = omega (arith, is.number) in
     record {
       field = is.field;
@@ -50,7 +51,7 @@ list_in_range side fields nodes lists v ps arcs v_in is = rw (list_is side field
 
 -- a node has no more patches than there are
 pub list_few : (side : Side) (fields : List PatchField) (nodes : ℕ) (lists : List (List ℕ)) (v : ℕ) (ps : List ℕ) → IsAdjacency side fields nodes lists → v < nodes → slice_get lists v ≡ Some ps → length ps ≤ length fields
-list_few side fields nodes lists v ps arcs v_in is = rw (list_is side fields nodes lists v ps arcs v_in is) (chosen_few (touches side v) fields)
+list_few side fields nodes lists v ps arcs v_in is = rw (list_is side fields nodes lists v ps arcs v_in is) (chosen_few (is_on side v) fields)
 
 -- an incoming patch from a node without a level
 pub open_parent : (fields : List PatchField) (levels : List (Option ℕ)) (v p : ℕ) → Contains (patches_at Incoming fields v) p → IsOpen fields levels p → HasOpenParent fields levels v
@@ -89,7 +90,7 @@ contains-map h (y ∷ ys) x (suc k, k_in, is) =
 -- the heads of a node's outgoing patches stand among those of its list
 pub heads_there : (fields : List PatchField) (v p : ℕ) (f : PatchField) → slice_get fields p ≡ Some f → f.tail ≡ v → Contains (map (head_of fields) (patches_at Outgoing fields v)) f.head
 heads_there fields v p f there tail =
-    let h : Contains (patches_at Outgoing fields v) p = among_from (touches Outgoing v) fields 0 p p f (omega arith) there (eq-eqb f.tail v tail) in
+    let h : Contains (patches_at Outgoing fields v) p = among_from (is_on Outgoing v) fields 0 p p f (omega arith) there (eq-eqb f.tail v tail) in
     let head : head_of fields p ≡ f.head = ap (λ (o : Option PatchField). unwrap_or (option_map (λ (g : PatchField). g.head) o) 0) there in
     subst (λ (w : ℕ). Contains (map (head_of fields) (patches_at Outgoing fields v)) w) head (contains-map (head_of fields) (patches_at Outgoing fields v) p h)
 

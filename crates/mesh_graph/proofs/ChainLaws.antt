@@ -6,8 +6,9 @@ use Rattle.std.proofs.lemmas.List.{drop-drop, drop_all, length-set, length-repli
 use Rattle.std.proofs.lemmas.Option.{slice_get_within, slice_get-get_or, slice_get_read}
 use Rattle.file_model.specs.declared.fields.PatchField.{PatchField}
 use Rattle.mesh_model.specs.Graph.{patches_from}
-use Rattle.mesh_graph.specs.declared.sides.Side.{Side}
-use Rattle.mesh_graph.specs.Sides.{node_on, touches, patches_at, patches_past}
+use Rattle.mesh_model.specs.declared.sides.Side.{Side}
+use Rattle.mesh_model.specs.Sides.{node_on, is_on}
+use Rattle.mesh_graph.specs.Sides.{patches_at, patches_past}
 use Rattle.mesh_graph.specs.ListReads.{slice_get-set_same, slice_get-set_other}
 use Rattle.mesh_graph.specs.Chains.{first_of, IsAfter, IsChain, AreLinked}
 
@@ -72,7 +73,7 @@ pub record IsFirstPast (side : Side) (fields : List PatchField) (v start p : ℕ
 
 pub first_past : (side : Side) (fields : List PatchField) (v start p : ℕ) → first_of (patches_past side fields v start) ≡ Some p → IsFirstPast side fields v start p
 first_past side fields v start p h =
-    let is : IsFirst (touches side v) (drop start fields) start p = is_first (touches side v) (drop start fields) start p h in
+    let is : IsFirst (is_on side v) (drop start fields) start p = is_first (is_on side v) (drop start fields) start p h in
     let there : slice_get fields (start + is.place) ≡ Some is.field = sym (slice_get-drop fields start is.place) ∙ is.there in
     let rest : drop (is.place + 1) (drop start fields) ≡ drop (p + 1) fields = drop-drop (is.place + 1) start fields ∙ ap (λ (n : ℕ). drop n fields) (let e : start + (is.place + 1) ≡ p + 1 = omega (arith, is.number) in e) in
     record {
@@ -80,21 +81,21 @@ first_past side fields v start p h =
       later = omega (arith, is.number);
       there = ap (slice_get fields) is.number ∙ there;
       on = eqb-true (node_on side is.field) v is.passes;
-      others = is.others ∙ ap (λ (fs : List PatchField). p ∷ patches_from (p + 1) (touches side v) fs) rest;
+      others = is.others ∙ ap (λ (fs : List PatchField). p ∷ patches_from (p + 1) (is_on side v) fs) rest;
     }
 
 -- a patch on the node's side comes first
 pub past-on : (side : Side) (fields : List PatchField) (v i : ℕ) (f : PatchField) → slice_get fields i ≡ Some f → node_on side f ≡ v → patches_past side fields v i ≡ i ∷ patches_past side fields v (i + 1)
 unfolding patches_from
 past-on side fields v i f there on =
-    let holds : touches side v f ≡ true = eq-eqb (node_on side f) v on in
+    let holds : is_on side v f ≡ true = eq-eqb (node_on side f) v on in
     rw (drop-at fields i f there, holds) refl
 
 -- a patch elsewhere is passed over
 pub past-off : (side : Side) (fields : List PatchField) (v i : ℕ) (f : PatchField) → slice_get fields i ≡ Some f → node_on side f ≢ v → patches_past side fields v i ≡ patches_past side fields v (i + 1)
 unfolding patches_from
 past-off side fields v i f there off =
-    let fails : touches side v f ≡ false = ne_eqb (node_on side f) v off in
+    let fails : is_on side v f ≡ false = ne_eqb (node_on side f) v off in
     rw (drop-at fields i f there, fails) refl
 
 -- one patch more is linked

@@ -7,9 +7,9 @@ use Rattle.file_model.specs.declared.fields.PatchField.{PatchField}
 use Rattle.mesh_model.specs.declared.refusals.DagFault.{DagFault}
 use Rattle.mesh_model.specs.declared.refusals.DagFault.TheVariants.{NoRoot, TwoRoots}
 use Rattle.mesh_model.specs.Graph.{patches_from, numbers_from, nodes_where, roots, is_root, only_root}
-use Rattle.mesh_graph.specs.declared.sides.Side.{Side}
-use Rattle.mesh_graph.specs.declared.sides.Side.TheVariants.{Incoming}
-use Rattle.mesh_graph.specs.Sides.{touches}
+use Rattle.mesh_model.specs.declared.sides.Side.{Side}
+use Rattle.mesh_model.specs.declared.sides.Side.TheVariants.{Incoming}
+use Rattle.mesh_model.specs.Sides.{is_on}
 use Rattle.mesh_graph.specs.Adjacency.{IsAdjacency, is_empty_list, is_bare_at}
 
 bare-by : (start : ℕ) (ps : List ℕ) (t any : Bool) → is_empty_list (Some ps) ≡ not any → is_empty_list (Some (if t then start ∷ ps else ps)) ≡ not (t || any)
@@ -22,8 +22,8 @@ bare_from test [] start = refl
 bare_from test (f ∷ fs) start = bare-by start (patches_from (start + 1) test fs) (test f) (list_any test fs) (bare_from test fs (start + 1))
 
 -- a node is bare where no patch touches it
-pub bare_is : (side : Side) (fields : List PatchField) (nodes : ℕ) (lists : List (List ℕ)) (v : ℕ) → IsAdjacency side fields nodes lists → v < nodes → is_bare_at lists v ≡ not (list_any (touches side v) fields)
-bare_is side fields nodes lists v arcs v_in = ap is_empty_list (arcs.each v v_in) ∙ bare_from (touches side v) fields 0
+pub bare_is : (side : Side) (fields : List PatchField) (nodes : ℕ) (lists : List (List ℕ)) (v : ℕ) → IsAdjacency side fields nodes lists → v < nodes → is_bare_at lists v ≡ not (list_any (is_on side v) fields)
+bare_is side fields nodes lists v arcs v_in = ap is_empty_list (arcs.each v v_in) ∙ bare_from (is_on side v) fields 0
 
 numbers-by : (first : ℕ) (xs ys : List ℕ) (s t : Bool) → s ≡ t → xs ≡ ys → (if s then first ∷ xs else xs) ≡ (if t then first ∷ ys else ys)
 numbers-by first xs ys true true e same = ap (λ zs. first ∷ zs) same

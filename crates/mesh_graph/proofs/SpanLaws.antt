@@ -5,7 +5,7 @@ use Rattle.std.specs.Option.{option_map}
 use Rattle.std.proofs.lemmas.List.{drop-append-le, take-append-le, drop_at, take_all, length-map}
 use Rattle.std.proofs.lemmas.Option.{slice_get-map}
 use Rattle.file_model.specs.declared.fields.PatchField.{PatchField}
-use Rattle.mesh_graph.specs.declared.sides.Side.{Side}
+use Rattle.mesh_model.specs.declared.sides.Side.{Side}
 use Rattle.mesh_graph.specs.declared.arcs.Span.{Span}
 use Rattle.mesh_graph.specs.Sides.{patches_at}
 use Rattle.mesh_graph.specs.Spans.{list_in, lists_in, IsSpan, AreSpans}

@@ -1,7 +1,7 @@
 -- The lists of the patches on one side of each node.
 use Rattle.std.specs.Prelude.{◌≡◌, ℕ, ◌<◌, Bool, true, false, List, [], ◌∷◌, length, slice_get, Option, Some, None}
 use Rattle.file_model.specs.declared.fields.PatchField.{PatchField}
-use Rattle.mesh_graph.specs.declared.sides.Side.{Side}
+use Rattle.mesh_model.specs.declared.sides.Side.{Side}
 use Rattle.mesh_graph.specs.Sides.{patches_at}
 
 -- each node's list has its patches, ascending

@@ -1,8 +1,9 @@
 -- Lists of patches as chains: where each begins, and what follows each patch.
 use Rattle.std.specs.Prelude.{◌≡◌, ℕ, ◌+◌, ◌<◌, ◌≤◌, List, [], ◌∷◌, length, slice_get, Option, Some, None}
 use Rattle.file_model.specs.declared.fields.PatchField.{PatchField}
-use Rattle.mesh_graph.specs.declared.sides.Side.{Side}
-use Rattle.mesh_graph.specs.Sides.{node_on, patches_past}
+use Rattle.mesh_model.specs.declared.sides.Side.{Side}
+use Rattle.mesh_model.specs.Sides.{node_on}
+use Rattle.mesh_graph.specs.Sides.{patches_past}
 
 -- the first of the list
 abbrev pub first_of : List ℕ → Option ℕ

@@ -12,11 +12,10 @@ ghost use Rattle.mesh_graph.specs.Graphs.{index_of, IsGraphOf};
 
 use crate::arcs::Adjacency;
 use crate::levels::levels_of;
-use crate::sides::Side;
 use crate::verdict::verdict_of;
 use file_model::{Node, PatchField};
 use grid_vertex::NoMemory;
-use mesh_model::DagFault;
+use mesh_model::{DagFault, Side};
 use std::alloc::Global;
 use std::marker::Model;
 

@@ -1,18 +1,10 @@
-//! The two sides of a node.
+//! The side of a node on which a patch is.
 
 ghost use Rattle.std.specs.Prelude.{◌≡◌};
-ghost use Rattle.mesh_graph.specs.Sides.{node_on};
+ghost use Rattle.mesh_model.specs.Sides.{node_on};
 
 use file_model::PatchField;
-
-/// Which patches of a node.
-#[derive(Clone, Copy)]
-pub enum Side {
-    /// Those that lead to it.
-    Incoming,
-    /// Those that lead from it.
-    Outgoing,
-}
+use mesh_model::Side;
 
 /// The node on whose side the patch is.
 pub fn node_of(side: Side, field: &PatchField) -> u32

@@ -7,3 +7,4 @@ pub mod Meshes
 pub mod Chosen
 pub mod NetLaws
 pub mod Orders
+pub mod Sides

@@ -6,5 +6,7 @@
 #![tactic(auto)]
 
 mod refusals;
+mod sides;
 
 pub use refusals::{DagFault, Refusal};
+pub use sides::Side;

@@ -3,9 +3,11 @@ use Rattle.std.proofs.Common.{◌≡◌, ℕ, ◌^◌, ◌<◌, List, length, ge
 use Rattle.std.specs.Bool.{then_some}
 use Rattle.std.specs.Fmt.{decimal}
 use Rattle.std.specs.Result.{result_ok}
+use Rattle.std.specs.Str.{IsUtf8}
 use Rattle.std.specs.Str.Parse.{AllDigits, ParsesUnsigned, digits_value}
+use Rattle.std.proofs.lemmas.Str.{IsUtf8-from_ascii}
 use Rattle.std.proofs.lemmas.Bool.{cases_lt, cases_Bool, leb-true, leb-false}
-use Rattle.std.proofs.lemmas.Fmt.{first_decimal, decimal_digit, decimal_injective, decimal_is_IsNumeral, decimal-digits_value, parse-decimal}
+use Rattle.std.proofs.lemmas.Fmt.{IsAscii-decimal, first_decimal, decimal_digit, decimal_injective, decimal_is_IsNumeral, decimal-digits_value, parse-decimal}
 use Rattle.std.proofs.lemmas.Str.Parse.{IsNumeralModel, numerals_by_value, tells_digits, digit_at, parse_plain}
 use Rattle.number_words.specs.Numbers.{number_in, HasPlusOrLeadingZero}
 use Rattle.number_words.specs.NumberLaws.{number_in-prints, number_in-spells}
@@ -55,3 +57,7 @@ number_in-parsed {E} most word (Ok n) small plain parsed =
     let prints = decimal-digits_value own word read.0.0 read.0.1 alone read.0.2 in
     bounded-prints most n word small (omega (arith, read.0.2, read.1)) (ap decimal read.1 ∙ prints)
 number_in-parsed most word (Err e) small plain parsed = none_of (number_in most word) (λ n is. let h = number_in-prints most n word is in let read = parse-decimal 64 n word (Err e) (omega (arith, h.1)) (omega (arith, h.1)) h.0 parsed in cc)
+
+-- what is no text spells no number
+pub number_in-no_text : (most : ℕ) (word : List ℕ) → most < 2 ^ 64 → (IsUtf8 word → ⊥) → number_in most word ≡ None
+number_in-no_text most word small no_text = none_of (number_in most word) (λ n e. let h = number_in-prints most n word e in no_text (subst IsUtf8 (sym h.0) (IsUtf8-from_ascii (decimal n) (IsAscii-decimal n (omega (arith, h.1))))))

@@ -10,8 +10,8 @@ fn has_plus_or_leading_zero(word: &[u8]) -> bool
     matches!(word, [b'+', ..] | [b'0', _, ..])
 }
 
-/// The number that the word spells, if it is at most `most`.
-pub fn read_number(word: &str, most: u64) -> Option<u64>
+/// The number that a word of text spells, if it is at most `most`.
+fn read_text(word: &str, most: u64) -> Option<u64>
     ensures value { result ≡ number_in most word.now }
     ensures bound { IfSome result (λ number. number ≤ most) }
 {
@@ -22,13 +22,24 @@ pub fn read_number(word: &str, most: u64) -> Option<u64>
     (number <= most).then_some(number)
 }
 
+/// The number that the word spells, if it is at most `most`. Bytes that are no text spell none.
+pub fn read_number(word: &[u8], most: u64) -> Option<u64>
+    ensures value { result ≡ number_in most word.now }
+    ensures bound { IfSome result (λ number. number ≤ most) }
+{
+    match str::from_utf8(word) {
+        Ok(text) => read_text(text, most),
+        Err(_) => None,
+    }
+}
+
 /// The integer that the word spells, if it is from `-most` to `most`.
-pub fn read_signed(word: &str, most: u32) -> Option<i32>
+pub fn read_signed(word: &[u8], most: u32) -> Option<i32>
     requires { most < 2 ^ 31 }
     ensures value { result ≡ signed_in most word.now }
     ensures bound { IfSome result (λ integer. unsigned_abs integer ≤ most) }
 {
-    match word.strip_prefix('-') {
+    match word.strip_prefix(b"-") {
         Some(digits) => match read_number(digits, u64::from(most))? {
             0 => None,
             number => Some(-(number as i32)),

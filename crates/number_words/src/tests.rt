@@ -4,14 +4,14 @@ use crate::{read_number, read_signed};
 
 #[test]
 fn words_that_are_numbers(rt: HostRuntime) {
-    assert_eq!(rt; read_number("0", 4_294_967_295), Some(0));
-    assert_eq!(rt; read_number("7", 4_294_967_295), Some(7));
+    assert_eq!(rt; read_number(b"0", 4_294_967_295), Some(0));
+    assert_eq!(rt; read_number(b"7", 4_294_967_295), Some(7));
     assert_eq!(rt;
-        read_number("4294967295", 4_294_967_295),
+        read_number(b"4294967295", 4_294_967_295),
         Some(4_294_967_295)
     );
-    assert_eq!(rt; read_signed("-2097152", 2_097_152), Some(-2_097_152));
-    assert_eq!(rt; read_signed("2097152", 2_097_152), Some(2_097_152));
+    assert_eq!(rt; read_signed(b"-2097152", 2_097_152), Some(-2_097_152));
+    assert_eq!(rt; read_signed(b"2097152", 2_097_152), Some(2_097_152));
 }
 
 #[test]
@@ -25,9 +25,14 @@ fn words_that_are_none(rt: HostRuntime) {
         "1 ",
         "18446744073709551616",
     ] {
-        assert_eq!(rt; read_number(word, 4_294_967_295), None, "at {word}");
+        assert_eq!(rt;
+            read_number(word.as_bytes(), 4_294_967_295),
+            None,
+            "at {word}"
+        );
     }
+    assert_eq!(rt; read_number(&[b'1', 0xFF], 4_294_967_295), None);
     for word in ["-2097153", "-", "--1", "-0", "-01", "+1"] {
-        assert_eq!(rt; read_signed(word, 2_097_152), None, "at {word}");
+        assert_eq!(rt; read_signed(word.as_bytes(), 2_097_152), None, "at {word}");
     }
 }

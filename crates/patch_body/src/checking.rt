@@ -12,7 +12,7 @@ ghost use Rattle.patch_body.specs.Zeros.{zeros_at, no_axis, fault_with};
 use crate::places::{behind_points, read_corners, read_point, read_u16, triangle_at};
 use crate::zeros::Zeros;
 use file_model::{FileFault, PatchField};
-use grid_vertex::{Point, in_grid};
+use grid_vertex::{GRID, Point, in_grid};
 
 /// What a fault says of where a body stands: its patch, and the offset at which its bytes end.
 #[derive(Clone, Copy)]
@@ -49,9 +49,9 @@ fn check_plain_points(source: Source, count: u16, bytes: &[u8]) -> Result<(), Fi
 
 // Whether a coordinate that lies the offset past the origin's is in the grid's range.
 fn is_shift_in_grid(origin: i32, offset: u16) -> bool
-    ensures { result ≡ is_within 1048576 (origin +ℤ pos offset) }
+    ensures { result ≡ is_within GRID (origin +ℤ pos offset) }
 {
-    (i64::from(origin) + i64::from(offset)).unsigned_abs() <= 1_048_576
+    (i64::from(origin) + i64::from(offset)).unsigned_abs() <= u64::from(GRID)
 }
 
 /// Looks at the offsets in the first 6 bytes, and gives the axes on which they are 0 and the bytes

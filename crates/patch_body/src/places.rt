@@ -1,6 +1,7 @@
 //! Points and corners at their places in a body's bytes.
 
 ghost use Rattle.std.specs.Prelude.{◌≡◌, ◌+◌, ◌*◌, ◌≤◌, length, drop, IsTrue, pos, ◌+ℤ◌};
+ghost use Rattle.grid_vertex.specs.declared.points.measures.TheConstants.{GRID};
 ghost use Rattle.grid_vertex.specs.Points.{is_in_grid, is_within};
 ghost use Rattle.file_model.specs.Numbers.{number_in, signed_in};
 ghost use Rattle.file_model.specs.Lists.{corners_of};
@@ -50,7 +51,7 @@ pub(crate) fn read_corners(bytes: &[u8]) -> [u16; 3]
 
 // The coordinate that lies the offset past the origin's.
 fn shift(origin: i32, offset: u16) -> i32
-    requires { IsTrue (is_within 1048576 (origin +ℤ pos offset)) }
+    requires { IsTrue (is_within GRID (origin +ℤ pos offset)) }
     ensures { result ≡ origin +ℤ pos offset }
 {
     origin + i32::from(offset)

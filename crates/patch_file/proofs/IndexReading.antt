@@ -5,28 +5,27 @@ use Rattle.std.proofs.lemmas.Bool.{and_parts, leb-true}
 use Rattle.std.proofs.lemmas.Result.{IfErr-weaker}
 use Rattle.file_model.specs.declared.refusals.ReadRefusal.{ReadRefusal}
 use Rattle.file_model.specs.declared.refusals.ReadRefusal.TheVariants.{File, ReadFault, Memory}
-use Rattle.file_model.specs.Answers.{Gives, Refuses, FailsOnlyIf, IsNotReadFault}
+use Rattle.file_model.specs.Answers.{Gives, Refuses, IsNotReadFault}
 use Rattle.file_model.specs.Lists.{IndexLists}
 use Rattle.file_model.specs.Reading.{Header, header_in, fields_size, fields_in, index_in}
-use Rattle.view_outside.specs.Taken.{taken_after, taken_after-taken_after}
+use Rattle.view_outside.specs.OnlyRead.{OnlyIf}
+use Rattle.view_outside.specs.Taken.{taken_after, RisesBelow, taken_after-taken_after}
 use Rattle.patch_file.specs.Headers.{IsHeader}
-use Rattle.patch_file.specs.Taking.{RisesBelow, index_size}
+use Rattle.patch_file.specs.Taking.{index_size}
 
 -- ---- refusals
 
-pub FailsOnlyIf-weaker : {A B : Type 0} (refusal : ReadRefusal) → (A → B) → FailsOnlyIf A refusal → FailsOnlyIf B refusal
-FailsOnlyIf-weaker (File fault) weaker fails = tt
-FailsOnlyIf-weaker ReadFault weaker fails = weaker fails
-FailsOnlyIf-weaker Memory weaker fails = tt
+pub OnlyIf-weaker : {A B E : Type 0} (failure refusal : E) → (A → B) → OnlyIf failure A refusal → OnlyIf failure B refusal
+OnlyIf-weaker failure refusal weaker fails is = weaker (fails is)
 
-never_fails : (fact : Type 0) (refusal : ReadRefusal) → IsNotReadFault refusal → FailsOnlyIf fact refusal
-never_fails fact (File fault) alone = tt
-never_fails fact ReadFault alone = absurd alone
-never_fails fact Memory alone = tt
+never_fails : (fact : Type 0) (refusal : ReadRefusal) → IsNotReadFault refusal → OnlyIf ReadFault fact refusal
+never_fails fact (File fault) alone is = absurd cc
+never_fails fact ReadFault alone is = absurd alone
+never_fails fact Memory alone is = absurd cc
 
 -- what reads no store fails only by its bytes and for want of memory
-pub fails_never : {X : Type 0} (result : Result X ReadRefusal) (fact : Type 0) → IfErr result IsNotReadFault → IfErr result (FailsOnlyIf fact)
-fails_never result fact alone = IfErr-weaker result IsNotReadFault (FailsOnlyIf fact) (never_fails fact) alone
+pub fails_never : {X : Type 0} (result : Result X ReadRefusal) (fact : Type 0) → IfErr result IsNotReadFault → IfErr result (OnlyIf ReadFault fact)
+fails_never result fact alone = IfErr-weaker result IsNotReadFault (OnlyIf ReadFault fact) (never_fails fact) alone
 
 -- ---- what was read, where the file is told
 

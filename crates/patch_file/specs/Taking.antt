@@ -1,22 +1,11 @@
 -- What a read takes from a store.
-use Rattle.std.specs.Prelude.{◌≡◌, ℕ, ◌+◌, ◌<◌, List, length, take, drop, Option, None, Some, Result, Ok, Err}
+use Rattle.std.specs.Prelude.{◌≡◌, ℕ, ◌+◌, List, length, take, drop, Option, None, Some, Result, Ok, Err}
 use Rattle.file_model.specs.declared.faults.FileFault.{FileFault}
 use Rattle.file_model.specs.Reading.{Header, header_in, fields_size}
-use Rattle.view_outside.specs.Taken.{taken_after}
 
 -- the first n bytes of the buffer are all that stand at the offset, up to the buffer's length
 abbrev pub Fills : List ℕ → ℕ → List ℕ → ℕ → Type 0
 Fills bytes offset buffer n = take n buffer ≡ take (length buffer) (drop offset bytes)
-
--- the count of bytes taken rose by less than the limit
-pub record RisesBelow (before now limit : ℕ) : Type 0 where
-  pub bytes : ℕ
-  pub below : bytes < limit
-  pub sum : now ≡ taken_after before bytes
-
--- the count of bytes taken rose by at most so many
-abbrev pub RisesAtMost : ℕ → ℕ → ℕ → Type 0
-RisesAtMost before now most = RisesBelow before now (most + 1)
 
 -- how many bytes the nodes and the fields have that a header announces
 abbrev pub announced_size : Result Header FileFault → ℕ

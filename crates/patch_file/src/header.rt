@@ -7,7 +7,7 @@ ghost use Rattle.patch_file.specs.Seen.{GivesBytes};
 ghost use Rattle.patch_file.specs.Headers.{header_seen};
 
 use byteorder::{ByteOrder, LittleEndian};
-use file_model::FileFault;
+use file_model::{FileFault, MOST_NODES, MOST_PATCHES};
 
 /// What the header says.
 #[derive(Clone, Copy)]
@@ -72,11 +72,11 @@ fn is_version(version: u16) -> bool
 fn is_node_count(nodes: u32) -> bool
     ensures { result ≡ is_node_count nodes }
 {
-    2 <= nodes && nodes <= 65_536
+    2 <= nodes && nodes <= MOST_NODES
 }
 
 fn is_patch_count(patches: u32) -> bool
     ensures { result ≡ is_patch_count patches }
 {
-    1 <= patches && patches <= 65_536
+    1 <= patches && patches <= MOST_PATCHES
 }

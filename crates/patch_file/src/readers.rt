@@ -1,15 +1,16 @@
 //! Reading a patch file: what stands before the bodies, a body, and the file's end.
 
 ghost use Rattle.std.specs.Prelude.{◌≡◌, ◌+◌, ◌*◌, ◌^◌, ◌<◌, ◌≤◌, length, take, drop, IfOk, IfErr, IfSome, OnOk, Ok, slice_get};
-ghost use Rattle.file_model.specs.Answers.{Gives, FailsOnlyIf, IsNotMemory, IsNotReadFault};
+ghost use Rattle.file_model.specs.Answers.{Gives, IsNotMemory, IsNotReadFault};
+ghost use Rattle.file_model.specs.declared.refusals.ReadRefusal.TheVariants.{ReadFault};
 ghost use Rattle.file_model.specs.Lists.{bodies_offset, body_size};
 ghost use Rattle.file_model.specs.Reading.{header_in, fields_size, fields_in, index_in, body_offset, body_of_file, end_in};
-ghost use Rattle.view_outside.specs.Faults.{Rose};
-ghost use Rattle.view_outside.specs.Files.{HasFile, file_bytes};
-ghost use Rattle.view_outside.specs.Taken.{taken_after};
+ghost use Rattle.view_outside.specs.Files.{HasFile, TellsBytes, file_bytes};
+ghost use Rattle.view_outside.specs.OnlyRead.{OnlyIf, OnlyRead};
+ghost use Rattle.view_outside.specs.Taken.{taken_after, RisesBelow, RisesAtMost};
 ghost use Rattle.patch_file.specs.Headers.{header_seen, IsHeader};
 ghost use Rattle.patch_file.specs.BodyRead.{IsBodyOf};
-ghost use Rattle.patch_file.specs.Taking.{RisesBelow, RisesAtMost, index_size};
+ghost use Rattle.patch_file.specs.Taking.{index_size};
 
 use crate::header::{Header, header_of};
 use crate::index::Index;
@@ -28,12 +29,11 @@ pub fn read_index<S: Store>(alloc: Global, store: &mut S, file: u32) -> Result<I
     ensures exact { IfSome (file_bytes (S.files store.old) file)
         (λ bytes. Gives (λ index. index) result (index_in bytes)) }
 
-    ensures kept { S.files store.new ≡ S.files store.old }
-    ensures later { S.faults store.old ≤ S.faults store.new }
-    ensures cause { IfErr result (FailsOnlyIf (Rose (S.faults store.old) (S.faults store.new))) }
+    ensures store { OnlyRead ReadFault (S.files store.old) (S.files store.new)
+        (S.faults store.old) (S.faults store.new) result }
 
     ensures taken { IfOk result (λ index. S.taken store.new ≡ taken_after (S.taken store.old) (bodies_offset index)) }
-    ensures cut { IfErr result (FailsOnlyIf
+    ensures cut { IfErr result (OnlyIf ReadFault
         (RisesBelow (S.taken store.old) (S.taken store.new) (index_size (file_bytes (S.files store.old) file)))) }
 {
     let header = read_header(store, file)?;
@@ -45,11 +45,10 @@ fn read_header<S: Store>(store: &mut S, file: u32) -> Result<Header, ReadRefusal
     ensures exact { IfSome (file_bytes (S.files store.old) file)
         (λ bytes. Gives header_seen result (header_in (take 16 bytes))) }
     ensures rules { IfOk result (λ header. IsHeader (header_seen header)) }
-    ensures kept { S.files store.new ≡ S.files store.old }
-    ensures later { S.faults store.old ≤ S.faults store.new }
-    ensures cause { IfErr result (FailsOnlyIf (Rose (S.faults store.old) (S.faults store.new))) }
+    ensures store { OnlyRead ReadFault (S.files store.old) (S.files store.new)
+        (S.faults store.old) (S.faults store.new) result }
     ensures taken { IfOk result (λ _. S.taken store.new ≡ taken_after (S.taken store.old) 16) }
-    ensures cut { IfErr result (FailsOnlyIf (RisesBelow (S.taken store.old) (S.taken store.new) 16)) }
+    ensures cut { IfErr result (OnlyIf ReadFault (RisesBelow (S.taken store.old) (S.taken store.new) 16)) }
 {
     let mut bytes = [0; 16];
     let Ok(n) = read_full(store, file, 0, &mut bytes) else {
@@ -72,13 +71,12 @@ fn read_fields<S: Store>(
     requires file { HasFile (S.files store.old) file }
     ensures exact { IfSome (file_bytes (S.files store.old) file) (λ bytes. Gives (λ index. index) result
         (fields_in (header_seen header) (take (fields_size (header_seen header)) (drop 16 bytes)))) }
-    ensures kept { S.files store.new ≡ S.files store.old }
-    ensures later { S.faults store.old ≤ S.faults store.new }
-    ensures cause { IfErr result (FailsOnlyIf (Rose (S.faults store.old) (S.faults store.new))) }
+    ensures store { OnlyRead ReadFault (S.files store.old) (S.files store.new)
+        (S.faults store.old) (S.faults store.new) result }
     ensures size { IfOk result (λ index. bodies_offset index ≡ 16 + fields_size (header_seen header)) }
     ensures taken { IfOk result (λ _. S.taken store.new
         ≡ taken_after (S.taken store.old) (fields_size (header_seen header))) }
-    ensures cut { IfErr result (FailsOnlyIf
+    ensures cut { IfErr result (OnlyIf ReadFault
         (RisesBelow (S.taken store.old) (S.taken store.new) (fields_size (header_seen header)))) }
 {
     let size = 20 * u64::from(header.nodes) + 12 * u64::from(header.patches);
@@ -119,14 +117,13 @@ pub fn read_body<S: Store>(
         (body_of_file index.now.version patch field (body_offset index.now patch) bytes))) }
     ensures body { IfOk result (λ body. IsBodyOf index.now patch body) }
 
-    ensures kept { S.files store.new ≡ S.files store.old }
-    ensures later { S.faults store.old ≤ S.faults store.new }
-    ensures cause { IfErr result (FailsOnlyIf (Rose (S.faults store.old) (S.faults store.new))) }
+    ensures store { OnlyRead ReadFault (S.files store.old) (S.files store.new)
+        (S.faults store.old) (S.faults store.new) result }
 
     ensures taken { IfOk result (λ body. S.taken store.new ≡ taken_after (S.taken store.old) (length body.bytes)) }
     ensures most { IfSome (slice_get index.now.fields patch) (λ field.
         RisesAtMost (S.taken store.old) (S.taken store.new) (body_size index.now.version field)) }
-    ensures cut { IfErr result (FailsOnlyIf (IfSome (slice_get index.now.fields patch) (λ field.
+    ensures cut { IfErr result (OnlyIf ReadFault (IfSome (slice_get index.now.fields patch) (λ field.
         RisesBelow (S.taken store.old) (S.taken store.new) (body_size index.now.version field)))) }
 {
     let version = index.version();
@@ -152,12 +149,11 @@ fn read_piece<S: Store>(
     ensures exact { IfSome (file_bytes (S.files store.old) file)
         (λ bytes. Gives (λ piece. piece.items) result (Ok (take size (drop offset bytes)))) }
     ensures short { IfOk result (λ piece. length piece.items ≤ size) }
-    ensures kept { S.files store.new ≡ S.files store.old }
-    ensures later { S.faults store.old ≤ S.faults store.new }
-    ensures cause { IfErr result (FailsOnlyIf (Rose (S.faults store.old) (S.faults store.new))) }
+    ensures store { OnlyRead ReadFault (S.files store.old) (S.files store.new)
+        (S.faults store.old) (S.faults store.new) result }
     ensures taken { IfOk result (λ piece. S.taken store.new ≡ taken_after (S.taken store.old) (length piece.items)) }
     ensures most { RisesAtMost (S.taken store.old) (S.taken store.new) size }
-    ensures cut { IfErr result (FailsOnlyIf (RisesBelow (S.taken store.old) (S.taken store.new) size)) }
+    ensures cut { IfErr result (OnlyIf ReadFault (RisesBelow (S.taken store.old) (S.taken store.new) size)) }
 {
     let mut bytes = vec![in alloc; 0; size as usize]?;
     let Ok(n) = read_full(store, file, offset, &mut bytes) else {
@@ -175,14 +171,14 @@ pub fn read_end<S: Store>(index: &Index, store: &mut S, file: u32) -> Result<(),
     requires { HasFile (S.files store.old) file }
     ensures exact { IfSome (file_bytes (S.files store.old) file)
         (λ bytes. Gives (λ _. tt) result (end_in index.now bytes)) }
+    ensures told { IfOk result (λ _. TellsBytes (S.files store.old) file) }
     ensures memory { IfErr result IsNotMemory }
 
-    ensures kept { S.files store.new ≡ S.files store.old }
-    ensures later { S.faults store.old ≤ S.faults store.new }
-    ensures cause { IfErr result (FailsOnlyIf (Rose (S.faults store.old) (S.faults store.new))) }
+    ensures store { OnlyRead ReadFault (S.files store.old) (S.files store.new)
+        (S.faults store.old) (S.faults store.new) result }
 
     ensures taken { OnOk result (S.taken store.new ≡ S.taken store.old) }
-    ensures cut { IfErr result (FailsOnlyIf (S.taken store.new ≡ S.taken store.old)) }
+    ensures cut { IfErr result (OnlyIf ReadFault (S.taken store.new ≡ S.taken store.old)) }
     ensures most { RisesAtMost (S.taken store.old) (S.taken store.new) 1 }
 {
     let length = index.file_length();

@@ -3,8 +3,8 @@
 ghost use Rattle.std.specs.Prelude.{◌≡◌, ◌+◌, ◌^◌, ◌<◌, ◌≤◌, length, IfOk, OnErr, IfSome};
 ghost use Rattle.view_outside.specs.Faults.{Rose};
 ghost use Rattle.view_outside.specs.Files.{HasFile, file_bytes};
-ghost use Rattle.view_outside.specs.Taken.{taken_after};
-ghost use Rattle.patch_file.specs.Taking.{Fills, RisesBelow};
+ghost use Rattle.view_outside.specs.Taken.{taken_after, RisesBelow};
+ghost use Rattle.patch_file.specs.Taking.{Fills};
 
 use view_outside::{Failed, Store};
 

@@ -4,6 +4,7 @@ use Rattle.grid_vertex.specs.declared.points.Point.{Point}
 use Rattle.grid_vertex.specs.Points.{is_point_within}
 use Rattle.file_model.specs.Rules.{is_between}
 use Rattle.mesh_model.specs.Meshes.{MeshLists}
+use Rattle.round_model.specs.declared.limits.TheConstants.{EYE_REACH, GREATEST_FOCAL, GREATEST_THRESHOLD}
 use Rattle.round_model.specs.Order.{Rules}
 use Rattle.round_model.specs.Scores.{score_of}
 
@@ -17,7 +18,7 @@ pub record ViewSeen : Type 0 where
 
 -- the eye's coordinates, the focal number and the threshold are in their ranges
 abbrev pub is_view : Point → ℕ → ℕ → Bool
-is_view eye focal threshold = is_point_within 2097152 eye && is_between 1 65536 focal && is_between 1 65536 threshold
+is_view eye focal threshold = is_point_within EYE_REACH eye && is_between 1 GREATEST_FOCAL focal && is_between 1 GREATEST_THRESHOLD threshold
 
 -- the view of numbers in their ranges, and none of others
 abbrev pub view_of : Point → ℕ → ℕ → ℕ → Option ViewSeen

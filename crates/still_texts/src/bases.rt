@@ -1,17 +1,17 @@
 //! The frame of the root's patches.
 
-ghost use Rattle.std.specs.Prelude.{◌≡◌, ◌≤◌, Ok, IfErr, IfSome};
+ghost use Rattle.std.specs.Prelude.{◌≡◌, Ok, IfSome};
 ghost use Rattle.file_model.specs.Lists.{FileLists};
 ghost use Rattle.file_model.specs.Reading.{file_in};
-ghost use Rattle.view_outside.specs.Faults.{Rose};
 ghost use Rattle.view_outside.specs.Files.{HasFile, file_bytes};
 ghost use Rattle.accepted_mesh.specs.MeshView.{IsMeshOf};
-ghost use Rattle.body_loads.specs.Loads.{LoadsOnlyIf};
+ghost use Rattle.view_outside.specs.OnlyRead.{OnlyRead};
+ghost use Rattle.body_loads.specs.declared.refusals.LoadRefusal.TheVariants.{ReadFault};
 ghost use Rattle.still_texts.specs.Shown.{IsBaseText};
 ghost use Rattle.still_texts.specs.Texts.{GivesText};
 
-use body_loads::{LoadRefusal, load_bodies};
 use accepted_mesh::Mesh;
+use body_loads::{LoadRefusal, load_bodies};
 use frame_writer::frame_text;
 use std::alloc::Global;
 use view_outside::Store;
@@ -27,9 +27,8 @@ pub fn base_text<S: Store>(
     requires { HasFile (S.files store.old) file }
     ensures told { IfSome (file_bytes (S.files store.old) file) (λ bytes. (lists : FileLists) → file_in bytes ≡ Ok lists
         → IsMeshOf lists mesh.now → GivesText (IsBaseText lists mesh.now.lists.root) result) }
-    ensures kept { S.files store.new ≡ S.files store.old }
-    ensures later { S.faults store.old ≤ S.faults store.new }
-    ensures cause { IfErr result (LoadsOnlyIf (Rose (S.faults store.old) (S.faults store.new))) }
+    ensures store { OnlyRead ReadFault (S.files store.old) (S.files store.new)
+        (S.faults store.old) (S.faults store.new) result }
 {
     let bodies = load_bodies(alloc, mesh.index(), store, file, mesh.base())?;
     let mut text = Vec::new(alloc);

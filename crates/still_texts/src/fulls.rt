@@ -1,23 +1,23 @@
 //! The frame of a round in which every try is granted.
 
-ghost use Rattle.std.specs.Prelude.{◌≡◌, ◌≤◌, [], Ok, IfOk, IfErr, IfSome};
+ghost use Rattle.std.specs.Prelude.{◌≡◌, [], Ok, IfOk, IfSome};
 ghost use Rattle.std.specs.List.{AllByRecursion};
 ghost use Rattle.file_model.specs.Lists.{FileLists};
 ghost use Rattle.file_model.specs.Reading.{file_in};
-ghost use Rattle.view_outside.specs.Faults.{Rose};
 ghost use Rattle.view_outside.specs.Files.{HasFile, file_bytes};
+ghost use Rattle.view_outside.specs.OnlyRead.{OnlyRead};
 ghost use Rattle.round_model.specs.declared.asks.Ask.TheVariants.{Done};
 ghost use Rattle.round_model.specs.Rounds.{IsWhole};
 ghost use Rattle.round_model.specs.Refiners.{pending_ask, round_state};
 ghost use Rattle.accepted_mesh.specs.MeshView.{IsMeshOf};
-ghost use Rattle.body_loads.specs.Loads.{LoadsOnlyIf};
+ghost use Rattle.body_loads.specs.declared.refusals.LoadRefusal.TheVariants.{ReadFault};
 ghost use Rattle.round_model.specs.Views.{view_rules};
 ghost use Rattle.still_texts.specs.Full.{IsFullText};
 ghost use Rattle.still_texts.specs.Texts.{GivesText};
 
+use accepted_mesh::Mesh;
 use body_loads::{LoadRefusal, load_bodies};
 use cut_refiner::{Ask, Refiner};
-use accepted_mesh::Mesh;
 use error_metric::View;
 use frame_writer::frame_text;
 use grid_vertex::NoMemory;
@@ -50,9 +50,8 @@ pub fn full_text<S: Store>(
     requires { HasFile (S.files store.old) file }
     ensures told { IfSome (file_bytes (S.files store.old) file) (λ bytes. (lists : FileLists) → file_in bytes ≡ Ok lists
         → IsMeshOf lists mesh.now → GivesText (IsFullText view.now lists mesh.now.lists.root) result) }
-    ensures kept { S.files store.new ≡ S.files store.old }
-    ensures later { S.faults store.old ≤ S.faults store.new }
-    ensures cause { IfErr result (LoadsOnlyIf (Rose (S.faults store.old) (S.faults store.new))) }
+    ensures store { OnlyRead ReadFault (S.files store.old) (S.files store.new)
+        (S.faults store.old) (S.faults store.new) result }
 {
     let round = granted_round(alloc, mesh, view)?;
     let bodies = load_bodies(alloc, mesh.index(), store, file, round.patches())?;

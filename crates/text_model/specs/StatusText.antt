@@ -72,6 +72,7 @@ status_text (statuses.Script fault) = line_of (codes "script") (decimals (script
 status_text (statuses.Budget need given) = line_of (codes "budget") (decimal need ∷ decimal given ∷ [])
 status_text statuses.Memory = line_of (codes "memory") []
 status_text (statuses.Changed patch fault) = line_of (codes "changed") (decimal patch ∷ file_fault_words fault)
+status_text (statuses.Wide patch) = line_of (codes "wide") (decimal patch ∷ [])
 
 -- the code with which the program ends
 abbrev pub status_code : Status → ℕ
@@ -84,3 +85,4 @@ status_code (statuses.Script fault) = 6
 status_code (statuses.Budget need given) = 7
 status_code statuses.Memory = 8
 status_code (statuses.Changed patch fault) = 9
+status_code (statuses.Wide patch) = 10

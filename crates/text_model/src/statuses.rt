@@ -25,4 +25,7 @@ pub enum Status {
     Memory,
     /// The file changed between its check and a load: the patch, and the fault of its body.
     Changed(u32, FileFault),
+    /// The file doesn't fit the version that it was to be written in: the least patch whose points spread too
+    /// wide.
+    Wide(u32),
 }

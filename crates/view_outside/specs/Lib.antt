@@ -1,6 +1,7 @@
 pub mod Faults
 pub mod Taken
 pub mod Files
+pub mod OnlyRead
 pub mod Streams
 pub mod Planned
 pub mod StoreState

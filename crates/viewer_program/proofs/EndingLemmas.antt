@@ -2,18 +2,19 @@
 use Rattle.std.proofs.Common.{◌≡◌}
 use Rattle.text_model.specs.declared.statuses.Status.{Status}
 use Rattle.text_model.specs.declared.statuses.Status.TheVariants as statuses
-use Rattle.viewer_program.specs.Endings.{IsStop, WriteFaultsOnlyIf}
+use Rattle.view_outside.specs.OnlyRead.{OnlyIf}
+use Rattle.viewer_program.specs.Endings.{IsStop}
 
-pub stop-no_write_fault : (fact : Type 0) (status : Status) → IsStop status → WriteFaultsOnlyIf fact status
-stop-no_write_fault fact statuses.Ok stop = tt
-stop-no_write_fault fact statuses.Usage stop = tt
-stop-no_write_fault fact (statuses.Refused refusal) stop = tt
-stop-no_write_fault fact statuses.ReadFault stop = tt
-stop-no_write_fault fact statuses.WriteFault stop = absurd stop
-stop-no_write_fault fact (statuses.Script fault) stop = tt
-stop-no_write_fault fact (statuses.Budget need given) stop = tt
-stop-no_write_fault fact statuses.Memory stop = tt
-stop-no_write_fault fact (statuses.Changed patch fault) stop = tt
+pub stop-no_write_fault : (fact : Type 0) (status : Status) → IsStop status → OnlyIf statuses.WriteFault fact status
+stop-no_write_fault fact statuses.Ok stop is = absurd stop
+stop-no_write_fault fact statuses.Usage stop is = absurd stop
+stop-no_write_fault fact (statuses.Refused refusal) stop is = absurd cc
+stop-no_write_fault fact statuses.ReadFault stop is = absurd cc
+stop-no_write_fault fact statuses.WriteFault stop is = absurd stop
+stop-no_write_fault fact (statuses.Script fault) stop is = absurd stop
+stop-no_write_fault fact (statuses.Budget need given) stop is = absurd stop
+stop-no_write_fault fact statuses.Memory stop is = absurd cc
+stop-no_write_fault fact (statuses.Changed patch fault) stop is = absurd cc
 
 pub stop-not_usage : (status : Status) → IsStop status → status ≡ statuses.Usage → ⊥
 stop-not_usage statuses.Ok stop is = stop

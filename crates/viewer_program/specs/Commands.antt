@@ -2,6 +2,7 @@
 use Rattle.std.specs.Prelude.{ℕ, ◌==◌, List, [], ◌∷◌, length, Option, Some, None, option_map, ℤ, codes, bytes_eq, if◌then◌else◌}
 use Rattle.grid_vertex.specs.declared.points.Point.{Point}
 use Rattle.number_words.specs.Numbers.{number_in, signed_in}
+use Rattle.round_model.specs.declared.limits.TheConstants.{EYE_REACH, GREATEST_FOCAL, GREATEST_THRESHOLD}
 use Rattle.round_model.specs.Views.{ViewSeen, view_of}
 use Rattle.viewer_program.specs.declared.commands.Command.{Command}
 use Rattle.viewer_program.specs.declared.commands.Command.TheVariants.{Base, Check, Full}
@@ -33,7 +34,7 @@ command_with_view_in first name view =
 
 abbrev pub command_in : List (List ℕ) → Option Command
 command_in (first ∷ name ∷ []) = command_with_file_in first name
-command_in (first ∷ name ∷ x ∷ y ∷ z ∷ focal ∷ threshold ∷ limit ∷ []) = command_with_view_in first name (view_in (point_in (signed_in 2097152 x) (signed_in 2097152 y) (signed_in 2097152 z)) (number_in 65536 focal) (number_in 65536 threshold) (number_in 4294967295 limit))
+command_in (first ∷ name ∷ x ∷ y ∷ z ∷ focal ∷ threshold ∷ limit ∷ []) = command_with_view_in first name (view_in (point_in (signed_in EYE_REACH x) (signed_in EYE_REACH y) (signed_in EYE_REACH z)) (number_in GREATEST_FOCAL focal) (number_in GREATEST_THRESHOLD threshold) (number_in 4294967295 limit))
 command_in others = None
 
 -- the name of the file, the second word

@@ -32,16 +32,6 @@ Ends answers statuses.Ok before after = (text : List ℕ) × answers (Ok text) �
 Ends answers statuses.WriteFault before after = (text : List ℕ) × answers (Ok text) × WritesPart before after text
 Ends answers status before after = Stops answers status
 
--- the status is the store's failure only where the fact holds
-abbrev pub ReadFaultsOnlyIf : Type 0 → Status → Type 0
-ReadFaultsOnlyIf fact statuses.ReadFault = fact
-ReadFaultsOnlyIf fact status = Unit {0}
-
--- the status is the sink's failure only where the fact holds
-abbrev pub WriteFaultsOnlyIf : Type 0 → Status → Type 0
-WriteFaultsOnlyIf fact statuses.WriteFault = fact
-WriteFaultsOnlyIf fact status = Unit {0}
-
 -- the status stops a command before anything is written
 abbrev pub IsStop : Status → Type 0
 IsStop (statuses.Refused refusal) = Unit {0}

@@ -1,12 +1,13 @@
 //! The commands, from their words to their status.
 
-ghost use Rattle.std.specs.Prelude.{◌≡◌, ◌≤◌, ◌↔◌, map, string_bytes, IfSome, IsNone};
-ghost use Rattle.text_model.specs.declared.statuses.Status.TheVariants.{Usage, ReadFault};
+ghost use Rattle.std.specs.Prelude.{◌≡◌, ◌↔◌, map, string_bytes, IfSome, IsNone};
+ghost use Rattle.text_model.specs.declared.statuses.Status.TheVariants.{Usage, ReadFault, WriteFault};
 ghost use Rattle.view_outside.specs.Faults.{Rose};
 ghost use Rattle.view_outside.specs.Files.{HasName, LacksName};
+ghost use Rattle.view_outside.specs.OnlyRead.{OnlyIf};
 ghost use Rattle.viewer_program.specs.Commands.{command_in, name_in};
 ghost use Rattle.viewer_program.specs.Answers.{IsAnswer};
-ghost use Rattle.viewer_program.specs.Endings.{Ends, IsQuiet, ReadFaultsOnlyIf, WriteFaultsOnlyIf};
+ghost use Rattle.viewer_program.specs.Endings.{Ends, IsQuiet};
 ghost use Rattle.viewer_program.specs.Told.{named_bytes};
 
 use crate::commands::{Command, command_of, file_name};
@@ -27,9 +28,9 @@ fn run_command<S: Store, O: Sink>(
     ensures told { IfSome (named_bytes (S.files store.old) name.now) (λ bytes.
         Ends (IsAnswer command bytes) result (O.written sink.old) (O.written sink.new)) }
     ensures quiet { IsQuiet result (O.written sink.old) (O.written sink.new) }
-    ensures read_fault { ReadFaultsOnlyIf (HasName (S.files store.old) name.now → Rose (S.faults store.old) (S.faults store.new)) result }
+    ensures read_fault { OnlyIf ReadFault (HasName (S.files store.old) name.now → Rose (S.faults store.old) (S.faults store.new)) result }
     ensures missing { LacksName (S.files store.old) name.now → result ≡ ReadFault }
-    ensures write_fault { WriteFaultsOnlyIf (Rose (O.faults sink.old) (O.faults sink.new)) result }
+    ensures write_fault { OnlyIf WriteFault (Rose (O.faults sink.old) (O.faults sink.new)) result }
     ensures command { result ≡ Usage → ⊥ }
 {
     let Ok(file) = store.find(name) else {
@@ -63,13 +64,13 @@ pub fn run_still<S: Store, I: Source, O: Sink>(
     // Nothing is written but where the status is Ok or WriteFault.
     ensures quiet { IsQuiet result (O.written sink.old) (O.written sink.new) }
     // A read fault comes only where the store failed, or tells that it has no file of that name,
-    ensures read_fault { ReadFaultsOnlyIf (HasName (S.files store.old) (name_in (map string_bytes words.now))
+    ensures read_fault { OnlyIf ReadFault (HasName (S.files store.old) (name_in (map string_bytes words.now))
         → Rose (S.faults store.old) (S.faults store.new)) result }
     // and there it always comes.
     ensures missing { IfSome (command_in (map string_bytes words.now)) (λ _.
         LacksName (S.files store.old) (name_in (map string_bytes words.now)) → result ≡ ReadFault) }
     // A write fault comes only where the sink failed.
-    ensures write_fault { WriteFaultsOnlyIf (Rose (O.faults sink.old) (O.faults sink.new)) result }
+    ensures write_fault { OnlyIf WriteFault (Rose (O.faults sink.old) (O.faults sink.new)) result }
 {
     match command_of(words) {
         Some(command) => run_command(alloc, command, file_name(words), store, sink),

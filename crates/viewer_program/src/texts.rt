@@ -1,16 +1,18 @@
 //! The text that a command writes of a file, or why there is none.
 
-ghost use Rattle.std.specs.Prelude.{◌≡◌, ◌≤◌, Ok, IfErr, IfSome};
+ghost use Rattle.std.specs.Prelude.{◌≡◌, Ok, IfErr, IfSome};
 ghost use Rattle.file_model.specs.Lists.{FileLists};
 ghost use Rattle.file_model.specs.Reading.{file_in};
-ghost use Rattle.view_outside.specs.Faults.{Rose};
 ghost use Rattle.view_outside.specs.Files.{HasFile, file_bytes};
 ghost use Rattle.accepted_mesh.specs.MeshView.{IsMeshOf};
-ghost use Rattle.dag_check.specs.Checks.{Checks, ChecksOnlyIf};
-ghost use Rattle.body_loads.specs.Loads.{LoadsOnlyIf};
+ghost use Rattle.view_outside.specs.OnlyRead.{OnlyRead};
+ghost use Rattle.dag_check.specs.Checks.{Checks};
+ghost use Rattle.dag_check.specs.declared.refusals.CheckRefusal.TheVariants as checks;
+ghost use Rattle.body_loads.specs.declared.refusals.LoadRefusal.TheVariants as loads;
+ghost use Rattle.text_model.specs.declared.statuses.Status.TheVariants as statuses;
 ghost use Rattle.still_texts.specs.Texts.{GivesText};
 ghost use Rattle.viewer_program.specs.Answers.{IsTextOf, IsAnswer, text_answer};
-ghost use Rattle.viewer_program.specs.Endings.{Gives, IsStop, ReadFaultsOnlyIf};
+ghost use Rattle.viewer_program.specs.Endings.{Gives, IsStop};
 
 use crate::commands::Command;
 use crate::refusals::{status_of_check, status_of_load};
@@ -26,9 +28,8 @@ use view_outside::Store;
 fn mesh_of<S: Store>(alloc: Global, store: &mut S, file: u32) -> Result<Mesh, CheckRefusal>
     requires { HasFile (S.files store.old) file }
     ensures told { IfSome (file_bytes (S.files store.old) file) (λ bytes. Checks bytes result) }
-    ensures kept { S.files store.new ≡ S.files store.old }
-    ensures later { S.faults store.old ≤ S.faults store.new }
-    ensures cause { IfErr result (ChecksOnlyIf (Rose (S.faults store.old) (S.faults store.new))) }
+    ensures store { OnlyRead checks.ReadFault (S.files store.old) (S.files store.new)
+        (S.faults store.old) (S.faults store.new) result }
 {
     let index = read_index(alloc, store, file)?;
     check(alloc, index, store, file)
@@ -45,9 +46,8 @@ fn text_of<S: Store>(
     requires { HasFile (S.files store.old) file }
     ensures told { IfSome (file_bytes (S.files store.old) file) (λ bytes. (lists : FileLists) → file_in bytes ≡ Ok lists
         → IsMeshOf lists mesh.now → GivesText (IsTextOf command lists mesh.now.lists.root) result) }
-    ensures kept { S.files store.new ≡ S.files store.old }
-    ensures later { S.faults store.old ≤ S.faults store.new }
-    ensures cause { IfErr result (LoadsOnlyIf (Rose (S.faults store.old) (S.faults store.new))) }
+    ensures store { OnlyRead loads.ReadFault (S.files store.old) (S.files store.new)
+        (S.faults store.old) (S.faults store.new) result }
 {
     match command {
         Command::Base => base_text(alloc, mesh, store, file),
@@ -69,9 +69,8 @@ pub fn command_text<S: Store>(
     requires { HasFile (S.files store.old) file }
     ensures told { IfSome (file_bytes (S.files store.old) file) (λ bytes. Gives (IsAnswer command bytes) (text_answer result)) }
     ensures stop { IfErr result IsStop }
-    ensures cause { IfErr result (ReadFaultsOnlyIf (Rose (S.faults store.old) (S.faults store.new))) }
-    ensures kept { S.files store.new ≡ S.files store.old }
-    ensures later { S.faults store.old ≤ S.faults store.new }
+    ensures store { OnlyRead statuses.ReadFault (S.files store.old) (S.files store.new)
+        (S.faults store.old) (S.faults store.new) result }
 {
     let mesh = match mesh_of(alloc, store, file) {
         Ok(mesh) => mesh,

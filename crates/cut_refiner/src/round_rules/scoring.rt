@@ -11,9 +11,10 @@ use std::alloc::Global;
 pub fn scores_of<W: Want>(alloc: Global, mesh: &Mesh, want: &W) -> Result<Vec<u64>, NoMemory>
     ensures { IfOk result (λ scores. scores.items ≡ W.scores want.now mesh.now.lists) }
 {
-    let mut scores = Vec::new(alloc);
-    for node in 0..mesh.index().node_count() {
-        scores.push(want.score(mesh, node))?;
+    let nodes = mesh.index().node_count();
+    let mut scores = Vec::with_capacity(alloc, nodes as usize)?;
+    for node in 0..nodes {
+        scores.push_reserved(want.score(mesh, node));
     }
     Ok(scores)
 }

@@ -5,11 +5,12 @@ ghost use Rattle.grid_vertex.specs.Points.{IsNearGrid, is_in_grid, is_within, ga
 
 use super::Point;
 
-const GRID: u32 = 1_048_576;
+/// How far from 0 a coordinate of a point of the grid is at most.
+pub const GRID: u32 = 1_048_576;
 
 // Whether the coordinate is in the grid's range.
 fn is_on_axis(coordinate: i32) -> bool
-    ensures { result ≡ is_within 1048576 coordinate }
+    ensures { result ≡ is_within GRID coordinate }
 {
     coordinate.unsigned_abs() <= GRID
 }

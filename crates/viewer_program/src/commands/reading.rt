@@ -8,12 +8,7 @@ use super::Command;
 use error_metric::View;
 use grid_vertex::Point;
 use number_words::{read_number, read_signed};
-
-// How far from 0 a coordinate of an eye is at most.
-const REACH: u32 = 2_097_152;
-
-// The greatest focal number, and the greatest threshold.
-const MOST: u64 = 65_536;
+use round_model::{EYE_REACH, GREATEST_FOCAL, GREATEST_THRESHOLD};
 
 /// The command that the words name; none where they are no command. They don't include the
 /// program's name.
@@ -57,22 +52,22 @@ fn command_with_view(first: &str, name: &str, view: Option<View>) -> Option<Comm
 
 // The point that three words spell.
 fn read_point(x: &str, y: &str, z: &str) -> Option<Point>
-    ensures { result ≡ point_in (signed_in 2097152 x.now) (signed_in 2097152 y.now) (signed_in 2097152 z.now) }
+    ensures { result ≡ point_in (signed_in EYE_REACH x.now) (signed_in EYE_REACH y.now) (signed_in EYE_REACH z.now) }
 {
-    let x = read_signed(x, REACH)?;
-    let y = read_signed(y, REACH)?;
-    let z = read_signed(z, REACH)?;
+    let x = read_signed(x.as_bytes(), EYE_REACH)?;
+    let y = read_signed(y.as_bytes(), EYE_REACH)?;
+    let z = read_signed(z.as_bytes(), EYE_REACH)?;
     Some(Point { x, y, z })
 }
 
 // The view from an eye that three words spell.
 fn read_view(eye: Option<Point>, focal: &str, threshold: &str, limit: &str) -> Option<View>
-    ensures { result ≡ view_in eye (number_in 65536 focal.now) (number_in 65536 threshold.now) (number_in 4294967295 limit.now) }
+    ensures { result ≡ view_in eye (number_in GREATEST_FOCAL focal.now) (number_in GREATEST_THRESHOLD threshold.now) (number_in 4294967295 limit.now) }
 {
     let eye = eye?;
-    let focal = read_number(focal, MOST)?;
-    let threshold = read_number(threshold, MOST)?;
-    let limit = read_number(limit, u64::from(u32::MAX))?;
+    let focal = read_number(focal.as_bytes(), u64::from(GREATEST_FOCAL))?;
+    let threshold = read_number(threshold.as_bytes(), u64::from(GREATEST_THRESHOLD))?;
+    let limit = read_number(limit.as_bytes(), u64::from(u32::MAX))?;
     View::new(eye, focal as u32, threshold as u32, limit as u32)
 }
 

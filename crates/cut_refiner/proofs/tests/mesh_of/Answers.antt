@@ -1,5 +1,5 @@
 -- The graph of an index with a root makes a mesh.
-use Rattle.std.proofs.Common.{◌≡◌, ℕ, List, Ok, sym, ◌∙◌, subst, refl}
+use Rattle.std.proofs.Common.{◌≡◌, ℕ, List, Ok, sym, ◌∙◌, subst}
 use Rattle.std.specs.Prelude.{Result}
 use Rattle.file_model.specs.declared.fields.Node.{Node}
 use Rattle.file_model.specs.declared.fields.PatchField.{PatchField}
@@ -16,5 +16,4 @@ with-requires c =
       rules = c.patch_count-patches.ensures.rules;
       graph = graph;
       nested = subst (IsVerdict index) (sym c.verdict.ensures ∙ c.in-Ok.is) graph.verdict_is;
-      sum = refl;
     }

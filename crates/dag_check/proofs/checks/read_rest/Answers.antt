@@ -12,10 +12,10 @@ returns-in_err-checker-clause-told g c =
 pub returns-in-Ok-clause-told : goal.returns-in-Ok-clause-told
 returns-in-Ok-clause-told g c =
     let same = c.in_ok-checker.ensures.index in
-    let ends = rw (c.index.ensures ∙ same, c.in_ok-checker.ensures.kept) at c.in-Ok.ensures.exact in
+    let ends = rw (c.index.ensures ∙ same, c.in_ok-checker.ensures.store.kept) at c.in-Ok.ensures.exact in
     file-whole _ c.args.index c.in_ok-checker.checker same c.requires.told c.in_ok-checker.ensures.told ends
 
 pub returns-in-Err-clause-told : goal.returns-in-Err-clause-told
 returns-in-Err-clause-told g c =
-    let ends = rw (c.index.ensures ∙ c.in_ok-checker.ensures.index, c.in_ok-checker.ensures.kept) at c.in-Err.ensures.exact in
+    let ends = rw (c.index.ensures ∙ c.in_ok-checker.ensures.index, c.in_ok-checker.ensures.store.kept) at c.in-Err.ensures.exact in
     file-end_refused _ c.args.index c.in_ok-checker.checker c.in-Err.refusal c.requires.told c.in_ok-checker.ensures.told ends

@@ -11,6 +11,6 @@ returns-clause-set c = c.in_ok-growing.ensures.none ∙ ap (λ (m : MeshLists). 
 
 pub returns-clause-root : goal.returns-clause-root
 returns-clause-root c =
-    let refinement : RefinementState = record { growing = c.in_ok-growing.growing; candidates = c.in_ok-candidates.candidates } in
+    let refinement : RefinementState = record { growing = c.in_ok-growing.growing; candidates = c.in_ok-candidates.candidates; next_size = 0 } in
     empty_can_join c.args.rules.now c.mesh-mesh.ensures.facts c.mesh-mesh.result.now.lists refinement c.node_count.result c.mesh-mesh.ensures.value c.in_ok-growing.ensures.none c.in_ok-growing.ensures.growing c.in_ok-candidates.ensures.items
     (c.node_count.ensures.value ∙ ap (λ (i : IndexLists). length i.nodes) c.index.ensures.value) c.in_ok-candidates.ensures.room

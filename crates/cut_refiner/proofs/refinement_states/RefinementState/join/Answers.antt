@@ -1,22 +1,18 @@
 -- Each patch that leads from the node is released.
-use Rattle.std.proofs.Common.{◌+◌, ◌∙◌, ap, subst, refl, get_or, drop, List, ℕ, arith}
+use Rattle.std.proofs.Common.{◌+◌, ◌∙◌, subst, refl, get_or, drop, List, ℕ, arith}
 use Rattle.std.proofs.lemmas.List.{drop_more, drop_all}
-use Rattle.mesh_model.specs.Meshes.{MeshLists}
-use Rattle.round_model.specs.Rounds.{has, with_member, frame_size}
+use Rattle.round_model.specs.Rounds.{with_member}
 use Rattle.cut_refiner.proofs.ReleaseLaws.{few_candidates, no_candidate}
 use Rattle.cut_refiner.proofs.OrderLaws.{head_is_node}
-use Rattle.cut_refiner.proofs.JoinLaws.{IsReleasing, joining_grows, releasing_at_start, is_missed, releases, joined, arc_in_range, arc_read}
+use Rattle.cut_refiner.proofs.JoinLaws.{IsReleasing, releasing_at_start, is_missed, releases, joined, arc_in_range, arc_read}
 use Rattle.cut_refiner.proofs.refinement_states.RefinementState.join.Goals as goal
-
-pub size_with-self-requires : goal.size_with-self-requires
-size_with-self-requires c = rw c.mesh-mesh.ensures.value (joining_grows c.args.rules.now c.mesh-mesh.ensures.facts c.requires.0 c.args.self.now c.args.node c.requires.1)
 
 pub loop-patch-init : goal.loop-patch-init
 loop-patch-init c = record {
   set = refl;
-  size = c.size_with-self.ensures ∙ ap (λ (m : MeshLists). frame_size (has (with_member c.args.self.now.growing.in_cut.items c.args.node)) m.index.fields) c.mesh-mesh.ensures.value;
-  releasing = rw (c.outgoing-patch-items.ensures, c.mesh-mesh.ensures.value) (releasing_at_start c.args.rules.now c.mesh-mesh.ensures.facts c.requires.0 c.args.self.now c.args.node c.requires.1);
-  room = c.requires.1.going.room;
+  size = c.requires.size;
+  releasing = rw (c.outgoing-patch-items.ensures, c.mesh-mesh.ensures.value) (releasing_at_start c.args.rules.now c.mesh-mesh.ensures.facts c.requires.can.0 c.args.self.now c.args.node c.requires.can.1);
+  room = c.requires.can.1.going.room;
   waiting = λ rest can. can.going.waiting;
 }
 
@@ -44,8 +40,8 @@ release-requires-clause-room c =
     let arc = arc_read c.args.rules.now c.mesh-mesh.result.now.lists c.index.result.now ps c.args.node k c.mesh-mesh.ensures.value c.index.ensures.value c.outgoing-patch-items.ensures c.loop-patch-test.true c.patch-head.result c.patch-head.ensures in
     let head = head_is_node c.args.rules.now c.mesh-mesh.ensures.facts (get_or ps k 0) c.patch-head.result arc.here in
     let missed = is_missed c.args.rules.now.mesh (with_member c.args.self.now.growing.in_cut.items c.args.node) (drop k ps) (drop (k + 1) ps) c.loop-patch.self.growing.missing.items (get_or ps k 0) c.patch-head.result c.loop-patch.invariant.releasing (drop_more ps k 0 c.loop-patch-test.true) arc.here head in
-    let waiting = c.loop-patch.invariant.waiting c.requires.0 c.requires.1 in
-    let fewer = few_candidates c.args.rules.now c.requires.0 c.loop-patch.self.growing.missing.items c.requires.1.going.gone c.loop-patch.self.candidates.items c.patch-head.result.head waiting c.requires.1.going.order head (no_candidate c.args.rules.now c.requires.0 c.loop-patch.self.growing.missing.items c.loop-patch.self.candidates.items c.patch-head.result.head waiting missed) in
+    let waiting = c.loop-patch.invariant.waiting c.requires.can.0 c.requires.can.1 in
+    let fewer = few_candidates c.args.rules.now c.requires.can.0 c.loop-patch.self.growing.missing.items c.requires.can.1.going.gone c.loop-patch.self.candidates.items c.patch-head.result.head waiting c.requires.can.1.going.order head (no_candidate c.args.rules.now c.requires.can.0 c.loop-patch.self.growing.missing.items c.loop-patch.self.candidates.items c.patch-head.result.head waiting missed) in
     omega (arith, fewer, c.loop-patch.invariant.room)
 
 pub loop-patch-preserved : goal.loop-patch-preserved

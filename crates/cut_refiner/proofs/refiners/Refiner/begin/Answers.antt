@@ -31,5 +31,5 @@ invariant_of-result g c =
       are_lists = c.go_on-hand.ensures.lists;
       are_first = first_none c.in_ok-rules.rules c.in_ok-locks.locks.locked c.go_on-hand.result c.in_ok-locks.ensures.locked;
       for_each = subst (λ (mesh : MeshLists). (v : ℕ) → v < length mesh.index.nodes → length (outgoing mesh.index.fields v) ≤ c.in_ok-locks.locks.room) c.mesh-2.ensures.value
-          (λ v node. omega (arith, c.greatest_degree.ensures v node, c.in_ok-locks.ensures.room));
+          (λ v node. omega (arith, c.greatest_degree.ensures.most v node, c.in_ok-locks.ensures.room));
     }

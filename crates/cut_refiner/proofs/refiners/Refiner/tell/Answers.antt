@@ -134,11 +134,16 @@ returns-then-count-patches c = λ patch asks.
 
 -- ---- the node joins
 
-pub join-requires : goal.join-requires
-join-requires c =
+pub join-requires-clause-can : goal.join-requires-clause-can
+join-requires-clause-can c =
     let granted = length c.self.inside.locks.locked in
     let trying = subst (IsAt c.self.inside.rules c.self.inside.tries.items c.self.inside.refinement granted) c.in-Some.is c.self.invariant.at in
     (trying.rest, can_join c.self.inside.rules c.self.inside.tries.items c.self.inside.refinement c.in-Some.node granted c.args.epoch trying c.self.invariant.are)
+
+pub join-requires-clause-size : goal.join-requires-clause-size
+join-requires-clause-size c =
+    let trying = subst (IsAt c.self.inside.rules c.self.inside.tries.items c.self.inside.refinement (length c.self.inside.locks.locked)) c.in-Some.is c.self.invariant.at in
+    trying.size
 
 pub go_on-self-inside-requires-2-clause-going : goal.go_on-self-inside-requires-2-clause-going
 go_on-self-inside-requires-2-clause-going c =

@@ -1,6 +1,10 @@
 -- The nodes before this one have their scores.
-use Rattle.std.proofs.Common.{◌≡◌, take}
+use Rattle.std.proofs.Common.{◌≡◌, ◌≤◌, take, vec_len, vec_capacity}
 use Rattle.cut_refiner.proofs.round_rules.scoring.scores_of.Given as goal
 
 abbrev pub invariant-loop-node : goal.invariant-loop-node
-invariant-loop-node g l = l.scores.items ≡ take l.node (g.W.Want.scores l.want l.mesh.lists)
+invariant-loop-node g l = record {
+  items : l.scores.items ≡ take l.node (g.W.Want.scores l.want l.mesh.lists);
+  few : vec_len l.scores ≤ l.node;
+  room : l.nodes ≤ vec_capacity l.scores;
+}

@@ -1,9 +1,8 @@
 -- The graph's verdict comes first, then the least node whose nets differ.
-use Rattle.std.proofs.Common.{refl, ◌∙◌, sym, subst, length, ◌≡◌}
+use Rattle.std.proofs.Common.{◌∙◌, sym, subst, length, ◌≡◌}
 use Rattle.std.proofs.lemmas.Result.{err_from_is_err_and}
 use Rattle.mesh_model.specs.Accepted.{IsAccepted, IsMeshFault, triangles_out_of}
 use Rattle.mesh_model.specs.Meshes.{IsMesh}
-use Rattle.mesh_model.specs.Frames.{triangles_in_all}
 use Rattle.mesh_model.specs.Nets.{HasOpenPairs}
 use Rattle.dag_check.specs.Added.{file_with}
 use Rattle.dag_check.specs.AllNodeSums.{all_sums_of}
@@ -41,8 +40,8 @@ pub returns-clause-facts : goal.returns-clause-facts
 returns-clause-facts c =
     let seen : CheckerSeen = record { index = c.self.inside.index; graph = c.self.inside.graph; next = c.self.inside.next; base = c.self.inside.base; all_sums = all_sums_of c.self.inside.all_sums } in
     subst (λ (m : MeshSeen). IsMesh m.lists) (sym c.with.ensures)
-    (mesh_is c.self.inside.index c.self.inside.graph c.in_ok-root.root (triangles_in_all c.self.inside.index.fields)
-    (record { rules = c.self.invariant.rules; graph = c.self.invariant.graph; nested = verdict_ok seen c.in_ok-root.root c.self.invariant (sym c.verdict.ensures ∙ c.in_ok-root.was); sum = refl }))
+    (mesh_is c.self.inside.index c.self.inside.graph c.in_ok-root.root
+    (record { rules = c.self.invariant.rules; graph = c.self.invariant.graph; nested = verdict_ok seen c.in_ok-root.root c.self.invariant (sym c.verdict.ensures ∙ c.in_ok-root.was) }))
 
 pub returns-clause-base : goal.returns-clause-base
 returns-clause-base c = λ bodies h.

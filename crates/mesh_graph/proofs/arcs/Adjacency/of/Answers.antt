@@ -2,7 +2,7 @@ use Rattle.std.proofs.Common.{◌≡◌, ℕ, ◌<◌, ◌+◌, List, ◌++◌, 
 use Rattle.std.proofs.lemmas.List.{length_push}
 use Rattle.std.proofs.lemmas.Option.{slice_get-get_or}
 use Rattle.file_model.specs.declared.fields.PatchField.{PatchField}
-use Rattle.mesh_graph.specs.declared.sides.Side.{Side}
+use Rattle.mesh_model.specs.declared.sides.Side.{Side}
 use Rattle.mesh_graph.specs.Sides.{patches_at}
 use Rattle.mesh_graph.specs.Chains.{IsChain, AreLinked}
 use Rattle.mesh_graph.proofs.ChainLaws.{chain_is}

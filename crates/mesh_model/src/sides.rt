@@ -1,0 +1,10 @@
+//! The two sides of a node.
+
+/// Which patches of a node.
+#[derive(Clone, Copy, Debug, PartialEq, Eq)]
+pub enum Side {
+    /// Those that lead to it.
+    Incoming,
+    /// Those that lead from it.
+    Outgoing,
+}
