@@ -18,9 +18,6 @@ pub choice_within : (n : ℕ) (answers : ℕ → Bool → Type 0) (above : ℕ �
 choice_within n answers above None m chooses less = tt
 choice_within n answers above (Some p) m chooses less = let within = chooses.within in omega arith
 
-pub choice_begins : (answers : ℕ → Bool → Type 0) (above : ℕ → ℕ → Bool) → ChoosesBy 0 answers above None
-choice_begins answers above = λ q within. absurd (omega arith)
-
 -- the next was answered not to fit
 pub choice_refused : (n : ℕ) (answers : ℕ → Bool → Type 0) (above : ℕ → ℕ → Bool) (choice : Option ℕ) → ChoosesBy n answers above choice → answers n false → ChoosesBy (n + 1) answers above choice
 choice_refused n answers above None chooses refused = below_more (λ (q : ℕ). answers q false) n chooses refused

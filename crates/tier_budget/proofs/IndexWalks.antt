@@ -2,7 +2,7 @@
 use Rattle.std.proofs.Common.{◌≡◌, ℕ, zero, suc, nat_lt, nat_le, ◌+◌, ◌<◌, Bool, false, not, ◌≤◌, List, [], ◌∷◌, ◌++◌, length, map, take, drop, sym, ap, ◌∙◌, arith, add-one, append_assoc, zero-add, subst}
 use Rattle.std.specs.Prelude.{slice_get, slice_index, slice_index_or, slice_set, IsTrue, IfSome}
 use Rattle.std.specs.List.{range_with_len, list_all}
-use Rattle.std.proofs.lemmas.List.{take_more, take_all, map-append, length-map}
+use Rattle.std.proofs.lemmas.List.{take_more, map-append, length-map}
 use Rattle.std.proofs.lemmas.List.FromFn.{length-range_with_len, map-range_with_len_more}
 use Rattle.std.proofs.Math.Seq.{drop-cons, set-append_seam}
 use Rattle.std.proofs.lemmas.Bool.{and_parts, leb-true, ltb-true}
@@ -36,10 +36,6 @@ pub size_is : (version : ℕ) (fields : List PatchField) (i x : ℕ) (d : PatchF
 size_is version [] i x d within is = absurd (omega arith)
 size_is version (f ∷ fields) zero x d within is = is
 size_is version (f ∷ fields) (suc i) x d within is = size_is version fields i x d (omega arith) is
-
--- a list that was walked to its end
-pub mapped_all : {X Y : Type 0} (f : X → Y) (xs : List X) (i : ℕ) (now : List Y) → length xs ≤ i → now ≡ map f (take i xs) → now ≡ map f xs
-mapped_all f xs i now past is = is ∙ ap (map f) (take_all i xs past)
 
 -- one more wish was written
 pub wished_more : (wish : ℕ → ℕ) (old now : List ℕ) (i x : ℕ) → i < length old → now ≡ map wish (range_with_len 0 i) ++ drop i old → x ≡ wish i → slice_set now i x ≡ map wish (range_with_len 0 (i + 1)) ++ drop (i + 1) old

@@ -43,10 +43,3 @@ marked_within s p m tier is =
     let many = length-map s.held (λ (o : Option SeenBody). is_some o) in
     let sized = tier.sized.held in
     omega arith
-
--- a patch of which it is told what is held is one of the tier's
-pub held_within : (s : TierState) (p : ℕ) (o : Option SeenBody) → IsTier s → slice_get s.held p ≡ Some o → p < count s
-held_within s p o tier is =
-    let within = slice_get_within s.held p o is in
-    let sized = tier.sized.held in
-    omega arith
