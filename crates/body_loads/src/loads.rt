@@ -31,7 +31,6 @@ pub fn load_body<S: Store>(
         (RefusesLoad index.now bytes (patch ∷ []))) }
     ensures body { IfOk result (λ body. IsBodyOf index.now patch (arc_value body)) }
     ensures names { IfErr result (NamesOneOf (patch ∷ [])) }
-
     ensures store { OnlyRead ReadFault (S.files store.old) (S.files store.new)
         (S.faults store.old) (S.faults store.new) result }
     ensures taken { IfOk result (λ _. S.taken store.new ≡ taken_after (S.taken store.old) (size_at index.now patch)) }
@@ -64,7 +63,6 @@ pub fn load_bodies<S: Store>(
     ensures patches { IfOk result (λ bodies. patches_of (map arc_value bodies.items) ≡ patches.now) }
     ensures bodies { IfOk result (λ bodies. All (λ body. IsBodyOf index.now body.patch body) (map arc_value bodies.items)) }
     ensures names { IfErr result (NamesOneOf patches.now) }
-
     ensures store { OnlyRead ReadFault (S.files store.old) (S.files store.new)
         (S.faults store.old) (S.faults store.new) result }
     ensures taken { IfOk result (λ _. S.taken store.new ≡ taken_after (S.taken store.old) (sizes_sum index.now patches.now)) }

@@ -28,10 +28,8 @@ pub fn read_index<S: Store>(alloc: Global, store: &mut S, file: u32) -> Result<I
     requires { HasFile (S.files store.old) file }
     ensures exact { IfSome (file_bytes (S.files store.old) file)
         (λ bytes. Gives (λ index. index) result (index_in bytes)) }
-
     ensures store { OnlyRead ReadFault (S.files store.old) (S.files store.new)
         (S.faults store.old) (S.faults store.new) result }
-
     ensures taken { IfOk result (λ index. S.taken store.new ≡ taken_after (S.taken store.old) (bodies_offset index)) }
     ensures cut { IfErr result (OnlyIf ReadFault
         (RisesBelow (S.taken store.old) (S.taken store.new) (index_size (file_bytes (S.files store.old) file)))) }
@@ -116,10 +114,8 @@ pub fn read_body<S: Store>(
         IfSome (slice_get index.now.fields patch) (λ field. Gives (λ body. body.lists) result
         (body_of_file index.now.version patch field (body_offset index.now patch) bytes))) }
     ensures body { IfOk result (λ body. IsBodyOf index.now patch body) }
-
     ensures store { OnlyRead ReadFault (S.files store.old) (S.files store.new)
         (S.faults store.old) (S.faults store.new) result }
-
     ensures taken { IfOk result (λ body. S.taken store.new ≡ taken_after (S.taken store.old) (length body.bytes)) }
     ensures most { IfSome (slice_get index.now.fields patch) (λ field.
         RisesAtMost (S.taken store.old) (S.taken store.new) (body_size index.now.version field)) }
@@ -173,10 +169,8 @@ pub fn read_end<S: Store>(index: &Index, store: &mut S, file: u32) -> Result<(),
         (λ bytes. Gives (λ _. tt) result (end_in index.now bytes)) }
     ensures told { IfOk result (λ _. TellsBytes (S.files store.old) file) }
     ensures memory { IfErr result IsNotMemory }
-
     ensures store { OnlyRead ReadFault (S.files store.old) (S.files store.new)
         (S.faults store.old) (S.faults store.new) result }
-
     ensures taken { OnOk result (S.taken store.new ≡ S.taken store.old) }
     ensures cut { IfErr result (OnlyIf ReadFault (S.taken store.new ≡ S.taken store.old)) }
     ensures most { RisesAtMost (S.taken store.old) (S.taken store.new) 1 }
