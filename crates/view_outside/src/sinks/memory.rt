@@ -95,6 +95,7 @@ impl Sink for MemorySink {
         ensures appends { IfOk result (λ n. Some self.new.written ≡ appended (Some self.old.written) (take n piece.now)) }
         ensures kept { OnErr result (self.new.written ≡ self.old.written) }
         ensures cause { HasCause self.old.faults self.new.faults ⊤ result }
+
         ensures answer { result_ok result ≡ write_answer self.old (length piece.now) }
         ensures after { self.new ≡ after_write self.old (take (result_unwrap_or result 0) piece.now) }
     {

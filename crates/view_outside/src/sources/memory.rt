@@ -71,6 +71,7 @@ impl Source for MemorySource {
         ensures bytes { IfOk result (λ n. ReadsRest (Some self.old.rest) buffer.new n (Some self.new.rest)) }
         ensures unread { OnErr result (self.new.rest ≡ self.old.rest) }
         ensures cause { HasCause self.old.faults self.new.faults ⊤ result }
+
         ensures answer { result_ok result ≡ read_answer self.old (length buffer.old) }
         ensures after { self.new ≡ after_read self.old (result_unwrap_or result 0) }
     {

@@ -112,6 +112,7 @@ impl Store for MemoryStore {
         ensures cause { HasCause self.old.faults self.new.faults (HasName (Some self.old.files) name.now) result }
         ensures kept { self.new.files ≡ self.old.files }
         ensures taken { self.new.taken ≡ self.old.taken }
+
         ensures answer { result_ok result ≡ find_answer self.old name.now }
         ensures after { self.new ≡ after_find self.old }
     {
@@ -134,6 +135,7 @@ impl Store for MemoryStore {
         ensures taken { MatchResult result
             (λ n. self.new.taken ≡ taken_after self.old.taken n)
             (λ _. self.new.taken ≡ self.old.taken) }
+
         ensures answer { result_ok result ≡ read_answer self.old file offset (length buffer.old) }
         ensures after { self.new ≡ after_read self.old offset (result_unwrap_or result 0) }
     {
