@@ -1,11 +1,11 @@
 //! Loading bodies again.
 
-ghost use Rattle.std.specs.Prelude.{◌≡◌, ◌<◌, length, map, All, IfOk, IfSome, MatchResult};
+ghost use Rattle.std.specs.Prelude.{◌≡◌, ◌<◌, length, map, All, IfOk, IfErr, IfSome, MatchResult};
 ghost use Rattle.std.specs.Arc.{arc_value};
 ghost use Rattle.view_outside.specs.Files.{HasFile, file_bytes};
 ghost use Rattle.view_outside.specs.OnlyRead.{OnlyRead};
 ghost use Rattle.body_loads.specs.declared.refusals.LoadRefusal.TheVariants.{ReadFault};
-ghost use Rattle.body_loads.specs.Loads.{body_at, AreBodiesAt, RefusesLoad, read_as, patches_of};
+ghost use Rattle.body_loads.specs.Loads.{body_at, AreBodiesAt, RefusesLoad, IsBodyChange, read_as, patches_of};
 
 use crate::refusals::LoadRefusal;
 use file_model::ReadRefusal;
@@ -27,6 +27,7 @@ fn load_body<S: Store>(
     ensures told { IfSome (file_bytes (S.files store.old) file) (λ bytes.
         MatchResult result (λ body. body_at index.now bytes patch ≡ read_as (arc_value body)) (RefusesLoad index.now bytes)) }
     ensures patch { IfOk result (λ body. (arc_value body).patch ≡ patch) }
+    ensures changed { IfErr result IsBodyChange }
     ensures store { OnlyRead ReadFault (S.files store.old) (S.files store.new)
         (S.faults store.old) (S.faults store.new) result }
 {
@@ -52,6 +53,7 @@ pub fn load_bodies<S: Store>(
     ensures told { IfSome (file_bytes (S.files store.old) file) (λ bytes.
         MatchResult result (λ bodies. AreBodiesAt index.now bytes patches.now (map arc_value bodies.items)) (RefusesLoad index.now bytes)) }
     ensures patches { IfOk result (λ bodies. patches_of (map arc_value bodies.items) ≡ patches.now) }
+    ensures changed { IfErr result IsBodyChange }
     ensures store { OnlyRead ReadFault (S.files store.old) (S.files store.new)
         (S.faults store.old) (S.faults store.new) result }
 {
