@@ -28,7 +28,7 @@ abbrev pub FollowsFile : Result CheckerSeen ReadRefusal → Result FileLists Fil
 FollowsFile (Ok checker) read = (bodies : List BodyLists) × (read ≡ Ok (file_with checker.index bodies)) × Follows checker bodies
 FollowsFile (Err refusal) read = Refuses refusal read
 
--- what a check answers for a file of these bytes
+-- what a check answers for a file of these bytes: where it gives a mesh, they are the patch file that it is of
 abbrev pub Checks : List ℕ → Result MeshSeen CheckRefusal → Type 0
 Checks bytes (Ok mesh) = (file : FileLists) × (file_in bytes ≡ Ok file) × IsMeshOf file mesh × IsPatchFile file bytes
 Checks bytes (Err (Refused (File fault))) = file_in bytes ≡ Err fault
