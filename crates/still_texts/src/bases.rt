@@ -1,6 +1,6 @@
 //! The frame of the root's patches.
 
-ghost use Rattle.std.specs.Prelude.{◌≡◌, Ok, IfSome};
+ghost use Rattle.std.specs.Prelude.{◌≡◌, Ok, IfOk, IfErr, IfSome};
 ghost use Rattle.file_model.specs.Lists.{FileLists};
 ghost use Rattle.file_model.specs.Reading.{file_in};
 ghost use Rattle.view_outside.specs.Files.{HasFile, file_bytes};
