@@ -1,11 +1,11 @@
 -- The index, walked patch by patch.
-use Rattle.std.proofs.Common.{◌≡◌, ℕ, zero, suc, nat_lt, ◌+◌, ◌<◌, Bool, false, not, ◌≤◌, List, [], ◌∷◌, ◌++◌, length, map, take, drop, Option, Some, sym, ap, ◌∙◌, arith, add-one, append_assoc, zero-add, subst}
+use Rattle.std.proofs.Common.{◌≡◌, ℕ, zero, suc, nat_lt, nat_le, ◌+◌, ◌<◌, Bool, false, not, ◌≤◌, List, [], ◌∷◌, ◌++◌, length, map, take, drop, sym, ap, ◌∙◌, arith, add-one, append_assoc, zero-add, subst}
 use Rattle.std.specs.Prelude.{slice_get, slice_index, slice_index_or, slice_set, IsTrue, IfSome}
 use Rattle.std.specs.List.{range_with_len, list_all}
 use Rattle.std.proofs.lemmas.List.{take_more, take_all, map-append, length-map}
 use Rattle.std.proofs.lemmas.List.FromFn.{length-range_with_len, map-range_with_len_more}
 use Rattle.std.proofs.Math.Seq.{drop-cons, set-append_seam}
-use Rattle.std.proofs.lemmas.Bool.{and_parts, ltb-true}
+use Rattle.std.proofs.lemmas.Bool.{and_parts, leb-true, ltb-true}
 use Rattle.file_model.specs.declared.fields.PatchField.{PatchField}
 use Rattle.file_model.specs.Lists.{IndexLists, body_size}
 use Rattle.file_model.specs.Rules.{IsIndex, is_field, has_ends, has_counts}
@@ -66,3 +66,6 @@ tail_marked index marks seen i heads rules within same =
     let here : i < length index.fields = subst (λ (fs : List PatchField). i < length fs) same within in
     subst (λ (fs : List PatchField). (slice_index_or fs i no_field).tail < length marks) (sym same)
     (subst (λ (n : ℕ). (slice_index_or index.fields i no_field).tail < n) (sym heads.all_nodes) (tail_within (length index.nodes) index.fields i no_field rules.fields here))
+
+pub few_patches : (index : IndexLists) → IsIndex index → length index.fields ≤ 65536
+few_patches index rules = leb-true (length index.fields) 65536 (and_parts (nat_le 1 (length index.fields)) (nat_le (length index.fields) 65536) rules.patch_count).1

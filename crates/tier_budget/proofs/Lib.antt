@@ -6,3 +6,4 @@ pub mod SumLaws
 pub mod StartLaws
 pub mod SoundLaws
 pub mod Ranking
+pub mod ChoiceSteps

@@ -1,6 +1,6 @@
 -- Which of two patches ranks above, read of their wishes.
-use Rattle.std.proofs.Common.{◌≡◌, ℕ, length, ◌<◌, ◌≤◌, ◌==◌, Bool, true, false, ◌&&◌, ◌||◌, nat_lt, nat_eq, ltb, eqb, refl, sym, ap, subst, ◌∙◌, arith}
-use Rattle.std.specs.Prelude.{slice_index, slice_index_or}
+use Rattle.std.proofs.Common.{◌≡◌, ℕ, length, ◌<◌, ◌≤◌, true, false, ◌&&◌, ◌||◌, ltb, eqb, refl, sym, subst, ◌∙◌, arith}
+use Rattle.std.specs.Prelude.{slice_index_or}
 use Rattle.std.proofs.lemmas.Bool.{or_left, lt-ltb, eq-eqb, ne_eqb, le-ltb}
 use Rattle.tier_model.specs.Tiers.{count, kept_wish, IsTier}
 use Rattle.tier_model.specs.Ranks.{outranks}

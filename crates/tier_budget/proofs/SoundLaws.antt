@@ -1,24 +1,22 @@
 -- Each change of a tier keeps its sums.
-use Rattle.std.proofs.Common.{◌≡◌, ℕ, zero, suc, ◌∷◌, replicate, ◌+◌, ◌-◌, ◌<◌, ◌≤◌, Bool, true, false, List, [], length, map, Option, Some, None, is_some, refl, sym, ap, subst, ◌∙◌, arith}
-use Rattle.std.specs.Prelude.{cond, slice_get, slice_index, slice_index_or, slice_set}
+use Rattle.std.proofs.Common.{◌≡◌, ℕ, zero, suc, ◌∷◌, replicate, ◌+◌, ◌-◌, ◌<◌, ◌≤◌, Bool, true, false, List, [], length, Option, Some, None, is_some, refl, sym, ap, subst, ◌∙◌, arith}
+use Rattle.std.specs.Prelude.{cond, slice_get, slice_index_or, slice_set}
 use Rattle.std.specs.List.{count_by}
-use Rattle.std.proofs.lemmas.List.{length-map, length-replicate, map-set}
+use Rattle.std.proofs.lemmas.List.{length-map, map-set}
 use Rattle.std.proofs.lemmas.List.Sums.{sum_by-cons}
-use Rattle.std.proofs.lemmas.Option.{get_or_from_slice_get, slice_get_within}
 use Rattle.file_model.specs.Lists.{IndexLists, SeenBody, body_size}
 use Rattle.tier_model.specs.declared.turns.Abort.{Abort}
-use Rattle.tier_model.specs.declared.turns.Coming.{Coming}
 use Rattle.tier_model.specs.declared.turns.Turn.TheVariants.{Reserve, Evict, Got, Lost, Commit}
-use Rattle.tier_model.specs.Places.{Places, after, load_of, marked_bytes, first_coming, first_bare, without}
-use Rattle.tier_model.specs.Tiers.{TierState, count, size, places, load, pinned_bytes, IsWidth, IsBodyFor, IsTier, sizes_of}
+use Rattle.tier_model.specs.Places.{after, load_of, first_bare, without}
+use Rattle.tier_model.specs.Tiers.{TierState, count, size, places, load, IsWidth, IsBodyFor, IsTier, sizes_of}
 use Rattle.tier_model.specs.Changes.{fresh, reserved, arrived, aborted, committed, dropped, passed_over, calmed, renewed, ranked, with_pin}
 use Rattle.tier_model.specs.ComingLaws.{first_comes, bare_comes, all_are_full}
 use Rattle.tier_model.specs.LoadLaws.{load-reserve, load-got, load-lost, load-commit, load-evict, marked_more, marked_none}
-use Rattle.tier_model.specs.BodyLaws.{marks_of, away_is_unmarked, there_is_marked}
+use Rattle.tier_model.specs.BodyLaws.{marks_of, away_is_unmarked}
 use Rattle.tier_model.specs.TierLaws.{IsTier-reserved, IsTier-arrived, IsTier-aborted, IsTier-committed, IsTier-dropped, IsTier-passed_over, IsTier-calmed, IsTier-renewed, IsTier-ranked, comes_within}
-use Rattle.tier_budget.specs.TierView.{TierSeen, Allows, held_count, IsSoundTier}
+use Rattle.tier_budget.specs.TierView.{TierSeen, Allows, IsSoundTier}
 use Rattle.tier_budget.proofs.SumLaws.{count_more, count_fewer, marked_within}
-use Rattle.tier_budget.proofs.StartLaws.{IsTier-fresh, fresh_load, IsTier-with_pin, pinned_load, stands, load_is_pinned, Stands, marks_of_bodies}
+use Rattle.tier_budget.proofs.StartLaws.{IsTier-fresh, fresh_load, IsTier-with_pin, pinned_load, stands, load_is_pinned, marks_of_bodies}
 
 pub sound_of_view : (v w : TierSeen) (b n h k : ℕ) → v ≡ w → IsSoundTier v.state b n h k → IsSoundTier w.state b n h k
 sound_of_view v w b n h k same sound = subst (λ (u : TierSeen). IsSoundTier u.state b n h k) same sound

@@ -2,7 +2,7 @@
 use Rattle.std.proofs.Common.{◌≡◌, ℕ, zero, suc, ◌+◌, ◌≤◌, Bool, true, false, List, [], ◌∷◌, ◌++◌, length, map, replicate, Option, Some, None, is_some, refl, sym, ap, subst, ◌∙◌, arith}
 use Rattle.std.specs.Prelude.{slice_get, slice_index, slice_index_or, slice_set}
 use Rattle.std.proofs.lemmas.List.{length-set, length-map, length-replicate, map-set}
-use Rattle.std.proofs.lemmas.Option.{same_Some, slice_get_within}
+use Rattle.std.proofs.lemmas.Option.{same_Some}
 use Rattle.file_model.specs.Lists.{IndexLists, SeenBody}
 use Rattle.tier_model.specs.declared.turns.Coming.{Coming}
 use Rattle.tier_model.specs.declared.turns.Turn.{Turn}
@@ -11,7 +11,7 @@ use Rattle.tier_model.specs.Tiers.{TierState, IsWidth, IsBodyFor, IsTier, places
 use Rattle.tier_model.specs.Changes.{fresh, with_pin}
 use Rattle.tier_model.specs.ComingLaws.{nothing_comes}
 use Rattle.tier_model.specs.LoadLaws.{marked_none, marked_more}
-use Rattle.tier_model.specs.BodyLaws.{each-set, none_there, marks_of, marks_of_nothing, away_is_unmarked}
+use Rattle.tier_model.specs.BodyLaws.{each-set, none_there, marks_of_nothing, away_is_unmarked}
 
 -- nothing held, and nothing coming
 abbrev pub nothing : ℕ → Places
@@ -111,5 +111,5 @@ IsTier-with_pin s body tier begins away right room =
       held_bodies = each-set (IsBodyFor s.sizes) s.held p (Some body) tier.held_bodies (λ b is. subst (IsBodyFor s.sizes p) (same_Some body b is) right);
       came_bodies = tier.came_bodies;
       replays = subst (λ (j : List Turn). Replays s.budget s.width s.sizes (slice_set s.pinned p true) j (places (with_pin s body))) (sym begins)
-        (subst (Replays s.budget s.width s.sizes (slice_set s.pinned p true) []) (sym same) Begins);
+          (subst (Replays s.budget s.width s.sizes (slice_set s.pinned p true) []) (sym same) Begins);
     }

@@ -1,5 +1,5 @@
 -- What callers see of a tier, and what holds of it.
-use Rattle.std.specs.Prelude.{◌≡◌, ℕ, ◌-◌, ◌<◌, ◌≤◌, length, is_some, vec_len, vec_capacity}
+use Rattle.std.specs.Prelude.{◌≡◌, ℕ, ◌-◌, ◌<◌, ◌≤◌, is_some, vec_len, vec_capacity}
 use Rattle.std.specs.List.{count_by}
 use Rattle.tier_model.specs.declared.turns.Turn.{Turn}
 use Rattle.tier_model.specs.Places.{Needs}

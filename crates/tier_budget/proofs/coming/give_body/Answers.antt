@@ -1,5 +1,5 @@
 -- One more has its body, if it is of the patch.
-use Rattle.std.proofs.Common.{◌<◌, length, sym, subst}
+use Rattle.std.proofs.Common.{◌<◌, sym, subst}
 use Rattle.std.specs.Prelude.{slice_index_or}
 use Rattle.tier_budget.proofs.ComingWalks.{past_end, give_here, give_elsewhere, given_more, given_all}
 use Rattle.tier_budget.proofs.coming.give_body.Goals as goal

@@ -1,7 +1,7 @@
 -- One more size is listed.
-use Rattle.std.proofs.Common.{◌<◌, length, ap, sym, subst, ◌∙◌, arith}
-use Rattle.file_model.specs.Lists.{IndexLists, body_size}
-use Rattle.tier_budget.proofs.IndexWalks.{no_field, mapped_more, mapped_all, size_is}
+use Rattle.std.proofs.Common.{◌<◌, length, arith}
+use Rattle.file_model.specs.Lists.{body_size}
+use Rattle.tier_budget.proofs.IndexWalks.{no_field, mapped_more, size_is}
 use Rattle.tier_budget.proofs.lists.body_sizes.Goals as goal
 
 pub loop-patch-preserved : goal.loop-patch-preserved

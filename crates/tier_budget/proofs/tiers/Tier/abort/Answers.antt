@@ -1,10 +1,10 @@
 -- The patch comes no more, and is put aside where it couldn't be read.
-use Rattle.std.proofs.Common.{◌≡◌, ◌-◌, ◌<◌, ◌≤◌, ℕ, List, [], ◌∷◌, ◌++◌, Option, Some, length, ap, sym, subst, ◌∙◌, refl, arith}
+use Rattle.std.proofs.Common.{◌≡◌, ◌-◌, ◌<◌, ◌≤◌, ℕ, List, [], ◌∷◌, ◌++◌, Option, Some, length, ap, sym, subst, ◌∙◌, refl}
 use Rattle.std.specs.Vec.{with_items}
 use Rattle.tier_model.specs.declared.turns.Coming.{Coming}
 use Rattle.tier_model.specs.Places.{first_bare}
-use Rattle.tier_model.specs.Tiers.{TierState, count, size}
-use Rattle.tier_model.specs.Changes.{aside_after, abort_entry, aborted}
+use Rattle.tier_model.specs.Tiers.{size}
+use Rattle.tier_model.specs.Changes.{aside_after, aborted}
 use Rattle.tier_model.specs.ComingLaws.{bare_comes}
 use Rattle.tier_model.specs.TierLaws.{comes_within}
 use Rattle.tier_budget.specs.TierView.{TierSeen, state_of, tier_view}
@@ -39,10 +39,10 @@ put_aside-requires c =
     subst (λ (n : ℕ). c.in-Some.patch < n) (sym (ap length c.deref_mut.ensures.value ∙ c.self.invariant.tier.sized.aside)) within
 
 is_aborted : (c : goal.After-push_reserved) → record (state_of c.self.inside) {
-    aside = (with_items c.self.inside.aside c.put_aside.new.aside).items;
-    coming = c.take_out.new.coming.items;
-    journal = c.push_reserved.new.self.items;
-  } ≡ aborted c.args.self.now.state c.in-Some.patch c.args.why
+  aside = (with_items c.self.inside.aside c.put_aside.new.aside).items;
+  coming = c.take_out.new.coming.items;
+  journal = c.push_reserved.new.self.items;
+} ≡ aborted c.args.self.now.state c.in-Some.patch c.args.why
 is_aborted c =
     let p = c.in-Some.patch in
     aborted_is (state_of c.self.inside) p c.args.why _ c.take_out.new.coming.items c.push_reserved.new.self.items

@@ -1,7 +1,6 @@
 -- The body is there, and so the patch that comes has it.
-use Rattle.std.proofs.Common.{◌≡◌, ap, sym, subst, ◌∙◌, refl, arith, Some}
+use Rattle.std.proofs.Common.{◌≡◌, ap, sym, ◌∙◌, refl, Some}
 use Rattle.std.specs.Vec.{with_items}
-use Rattle.patch_body.specs.declared.bodies.Body.{Body}
 use Rattle.file_model.specs.Lists.{SeenBody}
 use Rattle.tier_model.specs.Places.{with_body, first_bare}
 use Rattle.tier_model.specs.ComingLaws.{bare_comes}

@@ -5,7 +5,6 @@ use Rattle.tier_model.specs.Changes.{calmed}
 use Rattle.tier_budget.specs.TierView.{TierSeen, state_of}
 use Rattle.tier_budget.proofs.Equations.{calmed_is}
 use Rattle.tier_budget.proofs.Writes.{cleared}
-use Rattle.tier_budget.proofs.SoundLaws.{sound_moved, sound_of_view, sound-calmed}
 use Rattle.tier_budget.proofs.tiers.Tier.calm.Goals as goal
 
 pub returns-clause-state : goal.returns-clause-state

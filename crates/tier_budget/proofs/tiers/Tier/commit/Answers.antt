@@ -1,19 +1,17 @@
 -- The body that came is held, and its patch comes no more.
-use Rattle.std.proofs.Common.{◌≡◌, ◌<◌, ◌∷◌, ◌++◌, [], ap, sym, ◌∙◌, refl, ℕ, List, Option, Some, None}
+use Rattle.std.proofs.Common.{◌≡◌, ap, sym, ◌∙◌, refl, ℕ, List, Option, Some}
 use Rattle.std.specs.Prelude.{option_map, slice_index_or, slice_set}
 use Rattle.std.specs.Arc.{arc_value}
-use Rattle.file_model.specs.Lists.{SeenBody}
 use Rattle.tier_model.specs.declared.turns.Coming.{Coming}
-use Rattle.tier_model.specs.Places.{first_coming, without}
+use Rattle.tier_model.specs.Places.{first_coming}
 use Rattle.tier_model.specs.ComingLaws.{first_comes}
 use Rattle.tier_model.specs.TierLaws.{comes_within}
-use Rattle.tier_model.specs.Tiers.{TierState, count}
 use Rattle.tier_model.specs.Changes.{committed}
 use Rattle.tier_budget.specs.Heads.{bodies_in}
 use Rattle.tier_budget.specs.TierView.{TierSeen, state_of, tier_view}
 use Rattle.tier_budget.proofs.Equations.{committed_is}
 use Rattle.tier_budget.proofs.Writes.{body_written, body_read, has_place, has_item, at_some}
-use Rattle.tier_budget.proofs.SoundLaws.{sound_of_view, sound_moved, sound-committed, ready}
+use Rattle.tier_budget.proofs.SoundLaws.{sound_of_view, sound_moved, sound-committed}
 use Rattle.tier_budget.proofs.tiers.Tier.commit.Goals as goal
 
 first_is : (seen inside : List Coming) (o : Option ℕ) (p : ℕ) → seen ≡ inside → o ≡ first_coming seen → o ≡ Some p → first_coming inside ≡ Some p
@@ -30,11 +28,11 @@ index_mut-requires-2 c =
     has_place c.self.inside.held _ c.in-Some.patch c.self.invariant.tier.sized.held (comes_within (state_of c.self.inside) c.in-Some.patch c.self.invariant.tier (first_comes c.self.inside.coming.items c.in-Some.patch first))
 
 is_committed : (c : goal.After-push_reserved) → record (state_of c.self.inside) {
-    held = bodies_in (slice_set c.self.inside.held.items c.in-Some.patch c.take-body.result);
-    came = bodies_in (slice_set c.self.inside.came.items c.in-Some.patch c.take-body.new.self);
-    coming = c.take_out.new.coming.items;
-    journal = c.push_reserved.new.self.items;
-  } ≡ committed c.args.self.now.state c.in-Some.patch
+  held = bodies_in (slice_set c.self.inside.held.items c.in-Some.patch c.take-body.result);
+  came = bodies_in (slice_set c.self.inside.came.items c.in-Some.patch c.take-body.new.self);
+  coming = c.take_out.new.coming.items;
+  journal = c.push_reserved.new.self.items;
+} ≡ committed c.args.self.now.state c.in-Some.patch
 is_committed c =
     let p = c.in-Some.patch in
     let first = first_is c.deref.result.now c.self.inside.coming.items c.first_patch.result p c.deref.ensures.value c.first_patch.ensures c.in-Some.is in

@@ -1,5 +1,5 @@
 -- The wishes decide, and of equal ones the numbers.
-use Rattle.std.proofs.Common.{sym, subst}
+use Rattle.std.proofs.Common.{subst}
 use Rattle.tier_model.specs.Tiers.{kept_wish, IsTier}
 use Rattle.tier_budget.specs.TierView.{TierSeen, tier_view}
 use Rattle.tier_budget.proofs.Ranking.{wish_read, more_wished, as_wished, less_wished}

@@ -1,5 +1,5 @@
 -- The body is held and pinned.
-use Rattle.std.proofs.Common.{◌≡◌, ◌+◌, ℕ, length, ap, sym, ◌∙◌, refl, arith, true, Some}
+use Rattle.std.proofs.Common.{◌≡◌, ◌+◌, length, ap, ◌∙◌, refl, arith, true, Some}
 use Rattle.std.specs.Prelude.{slice_set}
 use Rattle.file_model.specs.Lists.{SeenBody}
 use Rattle.tier_model.specs.Changes.{with_pin}

@@ -13,5 +13,5 @@ returns-clause-state g c =
     let wish = g.W.Wishes.wish_of c.args.wishes.now in
     ranked_is (state_of c.self.inside) wish (with_items c.self.inside.wishes c.copy_wishes.new.kept).items
     (written c.self.inside.wishes c.deref_mut.result.now c.copy_wishes.new.kept c.deref_mut.ensures.value c.copy_wishes.auto.kept ∙ c.copy_wishes.ensures
-      ∙ ap (λ n. map wish (range_with_len 0 n)) (ap length c.deref_mut.ensures.value ∙ c.self.invariant.tier.sized.wishes))
+    ∙ ap (λ n. map wish (range_with_len 0 n)) (ap length c.deref_mut.ensures.value ∙ c.self.invariant.tier.sized.wishes))
     ∙ ap (λ (v : TierSeen). ranked v.state wish) c.self.view_is

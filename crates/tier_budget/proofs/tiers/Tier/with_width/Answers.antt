@@ -1,15 +1,19 @@
-use Rattle.std.proofs.Common.{rules, ◌≡◌, ◌<◌, ◌≤◌, Some, None, slice_get, IfOk, IfSome, MatchOption, OnOk, ℕ, ◌+◌, ◌-◌, ◌*◌, length, ◌/◌, ◌%◌, Bool, true, false, nat_eq, nat_lt, List, [], ◌∷◌, ◌++◌, slice_index_or, slice_set, bit_and, bit_or, Fits, w8, w32, w64, Bor, MutBor}
-use Rattle.std.specs.Arc.{arc_value}
-use Rattle.tier_model.specs.Places.{is_marked}
-use Rattle.tier_model.specs.Tiers.{count, load, pinned_bytes, IsWidth, IsBodyFor, IsTier}
+-- A tier that holds nothing.
+use Rattle.std.proofs.Common.{refl, rules}
 use Rattle.tier_model.specs.Changes.{fresh}
-use Rattle.tier_budget.specs.TierView.{held_count}
+use Rattle.tier_budget.specs.Heads.{bodies_in}
+use Rattle.tier_budget.proofs.Equations.{fresh_is}
+use Rattle.tier_budget.proofs.IndexWalks.{few_patches}
+use Rattle.tier_budget.proofs.SoundLaws.{sound_moved, sound-fresh}
 use Rattle.tier_budget.proofs.tiers.Tier.with_width.Goals as goal
 
--- src/tiers.rt:75:9
-pub invariant_of-result : goal.invariant_of-result
-invariant_of-result c = ?
-
--- src/tiers.rt:64:5
 pub returns : goal.returns
-returns c = ?
+returns c =
+    fresh_is c.args.index.now c.args.budget c.args.width c.in_ok-body_sizes.field-0.items c.in_ok-vec.field-0.items c.in_ok-base_patches.field-0.items c.in_ok-vec-2.field-0.items c.in_ok-vec-3.field-0.items c.in_ok-vec-4.field-0.items
+    (bodies_in c.in_ok-no_bodies.field-0.items) (bodies_in c.in_ok-no_bodies-2.field-0.items) c.in_ok-with_capacity.field-0.items c.new.result.items
+    c.in_ok-body_sizes.ensures (search rules) c.in_ok-base_patches.ensures (search rules) (search rules) (search rules) (search rules) (search rules) (search rules) c.new.ensures.items
+
+pub invariant_of-result : goal.invariant_of-result
+invariant_of-result c =
+    sound_moved (fresh c.args.index.now c.args.budget c.args.width) _ _ _ _ _ _ _ _ _ (returns c) refl refl refl refl
+    (sound-fresh c.args.index.now c.args.budget c.args.width _ c.requires (few_patches c.args.index.now c.patch_count-patches.ensures.rules) (λ some. c.in_ok-with_capacity.ensures.capacity))
