@@ -25,3 +25,9 @@ IfJudged fact Memory = Unit {0}
 -- the refusal is no fault of the script
 abbrev pub IsUnjudged : ScriptRefusal → Type 0
 IsUnjudged refusal = IfJudged ⊥ refusal
+
+-- the refusal isn't the source's failure, of what reads no source
+abbrev pub IsNotReadFault : ScriptRefusal → Type 0
+IsNotReadFault (Script fault) = Unit {0}
+IsNotReadFault ReadFault = ⊥
+IsNotReadFault Memory = Unit {0}

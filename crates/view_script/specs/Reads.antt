@@ -20,7 +20,7 @@ pub record ReadsAtMost (most : ℕ) (before after : Option (List ℕ)) : Type 0 
   pub read : HasRead before bytes after
 
 -- where told, so many bytes were read, or all where there were fewer
-abbrev pub ReadsThrough : ℕ → Option (List ℕ) → Option (List ℕ) → Type 0
+unfoldable pub ReadsThrough : ℕ → Option (List ℕ) → Option (List ℕ) → Type 0
 ReadsThrough most before after = after ≡ option_map (drop most) before
 
 -- where told, nothing is left

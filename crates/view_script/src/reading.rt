@@ -1,10 +1,10 @@
 //! Reading the lines of a script.
 
-ghost use Rattle.std.specs.Prelude.{◌≡◌, ◌≤◌, length, IfOk, MatchResult};
+ghost use Rattle.std.specs.Prelude.{◌≡◌, ◌≤◌, length, IfOk, IfErr, MatchResult};
 ghost use Rattle.script_model.specs.ScriptLines.{lines_of};
 ghost use Rattle.script_model.specs.Histories.{no_sessions};
 ghost use Rattle.script_model.specs.Scripts.{line_in, lines_in};
-ghost use Rattle.view_script.specs.Answers.{Gives, Refuses};
+ghost use Rattle.view_script.specs.Answers.{Gives, Refuses, IsNotReadFault};
 ghost use Rattle.view_script.specs.Stages.{history_of};
 ghost use Rattle.view_script.specs.AddedLines.{AddsLine, IsNew, NamesSession};
 
@@ -47,6 +47,7 @@ impl LineReader {
     ) -> Result<Option<Line>, ScriptRefusal>
         ensures value { Gives (λ read. read) result (line_in self.now.mode self.now.tiers (history_of self.now.sessions) number line.now) }
         ensures numbered { IfOk result NamesSession }
+        ensures unread { IfErr result IsNotReadFault }
     {
         if !is_text(line) {
             return Err(ScriptRefusal::Script(ScriptFault::NotText(number)));
@@ -67,8 +68,9 @@ impl LineReader {
 
     // Adds the line of this number, if it has words.
     fn add_line(&mut self, alloc: Global, number: u32, line: &[u8]) -> Result<(), ScriptRefusal>
-        ensures { MatchResult result (λ _. AddsLine number line.now self.old self.new)
+        ensures added { MatchResult result (λ _. AddsLine number line.now self.old self.new)
             (λ refusal. Refuses refusal (line_in self.old.mode self.old.tiers (history_of self.old.sessions) number line.now)) }
+        ensures unread { IfErr result IsNotReadFault }
     {
         match self.line_of(alloc, number, line) {
             Ok(Some(line)) => {
@@ -96,7 +98,8 @@ pub fn read_lines(
     bytes: &[u8],
 ) -> Result<Vec<Line>, ScriptRefusal>
     requires { length bytes.now ≤ MOST_SCRIPT }
-    ensures { Gives (λ lines. lines.items) result (lines_in mode tiers no_sessions 1 (lines_of bytes.now)) }
+    ensures value { Gives (λ lines. lines.items) result (lines_in mode tiers no_sessions 1 (lines_of bytes.now)) }
+    ensures unread { IfErr result IsNotReadFault }
 {
     let mut reader = LineReader::new(alloc, mode, tiers);
     let mut number = 1;

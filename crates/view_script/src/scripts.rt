@@ -7,7 +7,7 @@ ghost use Rattle.view_outside.specs.OnlyRead.{OnlyIf};
 ghost use Rattle.script_model.specs.Orders.{is_of_session};
 ghost use Rattle.script_model.specs.Scripts.{script_in, AreLines};
 ghost use Rattle.view_script.specs.declared.refusals.ScriptRefusal.TheVariants.{ReadFault};
-ghost use Rattle.view_script.specs.Answers.{Gives, IfJudged};
+ghost use Rattle.view_script.specs.Answers.{Gives, IfJudged, IsNotReadFault};
 ghost use Rattle.view_script.specs.Reads.{ReadsAtMost, ReadsThrough};
 
 use crate::reading::read_lines;
@@ -39,6 +39,16 @@ impl Model for Script {
     ghost invariant = { λ script. AreLines script.mode script.tiers script.lines.items };
 }
 
+// Whether the line orders the session.
+fn is_of_session(line: &Line, session: u32) -> bool
+    ensures { result ≡ is_of_session session line.now }
+{
+    match line.order.session() {
+        Some(named) => named == session,
+        None => false,
+    }
+}
+
 impl Script {
     /// The lines that have words, in their order.
     pub fn lines(&self) -> &[Line]
@@ -68,7 +78,7 @@ impl Script {
     {
         let mut lines = Vec::new(alloc);
         for line in &self.lines {
-            if line.order.session() == Some(session) {
+            if is_of_session(line, session) {
                 lines.push(*line)?;
             }
         }
@@ -76,9 +86,31 @@ impl Script {
     }
 }
 
+// The script that the bytes are.
+#[tactic(auto, unfolding(script_model::specs::Scripts::script_in))]
+fn script_of(
+    alloc: Global,
+    mode: Mode,
+    tiers: u32,
+    bytes: &[u8],
+) -> Result<Script, ScriptRefusal>
+    ensures value { Gives (λ script. script.lines) result (script_in mode tiers bytes.now) }
+    ensures mode { IfOk result (λ script. script.mode ≡ mode) }
+    ensures tiers { IfOk result (λ script. script.tiers ≡ tiers) }
+    ensures unread { IfErr result IsNotReadFault }
+{
+    if bytes.len() > MOST_SCRIPT as usize {
+        return Err(ScriptRefusal::Script(ScriptFault::TooLong));
+    }
+    match read_lines(alloc, mode, tiers, bytes) {
+        Ok(lines) => Ok(Script { lines, mode, tiers }),
+        Err(refusal) => Err(refusal),
+    }
+}
+
 /// Reads a script to its end, or to one byte past the most that a script has.
 ///
-/// `Script` is the first faulty line's least fault, and `ReadFault` a failure of the source.
+/// `Script` is the least fault of the first faulty line, and `ReadFault` a failure of the source.
 pub fn read_script<I: Source>(
     alloc: Global,
     source: &mut I,
@@ -94,15 +126,8 @@ pub fn read_script<I: Source>(
     ensures later { I.faults source.old ≤ I.faults source.new }
     ensures cause { IfErr result (OnlyIf ReadFault (Rose (I.faults source.old) (I.faults source.new))) }
 {
-    let bytes = match read_bytes(alloc, source) {
-        Ok(bytes) => bytes,
-        Err(refusal) => return Err(refusal),
-    };
-    if bytes.len() > MOST_SCRIPT as usize {
-        return Err(ScriptRefusal::Script(ScriptFault::TooLong));
-    }
-    match read_lines(alloc, mode, tiers, &bytes) {
-        Ok(lines) => Ok(Script { lines, mode, tiers }),
+    match read_bytes(alloc, source) {
+        Ok(bytes) => script_of(alloc, mode, tiers, bytes.as_slice()),
         Err(refusal) => Err(refusal),
     }
 }
