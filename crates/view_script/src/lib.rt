@@ -15,3 +15,6 @@ mod words;
 pub use refusals::ScriptRefusal;
 pub use script_model::{Line, MOST_SCRIPT, Mode, Order, SESSIONS};
 pub use scripts::{Script, read_script};
+
+#[cfg(test)]
+mod tests;

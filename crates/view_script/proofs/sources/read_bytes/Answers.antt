@@ -1,4 +1,5 @@
-use Rattle.std.proofs.Common.{◌++◌, length, length-append, arith}
+use Rattle.std.proofs.Common.{◌++◌, length, length-append, arith, rules}
+use Rattle.std.proofs.lemmas.Grind.{common_steps}
 use Rattle.view_script.specs.declared.sources.TheConstants.{MOST_READ}
 use Rattle.view_script.proofs.ReadLemmas.{HasRead-append, through_end, through_most}
 use Rattle.view_script.proofs.sources.read_bytes.Goals as goal
@@ -8,7 +9,7 @@ returns-in_err-read_piece-clause-read g c =
     let r = c.in_err-read_piece.ensures.read in
     record {
       bytes = c.loop-chunk.bytes.items ++ r.bytes;
-      few = omega (arith, length-append c.loop-chunk.bytes.items r.bytes, r.few, c.loop-chunk.bytes.ok.0);
+      few = let sum = length-append c.loop-chunk.bytes.items r.bytes in first_of (search rules, search (rules, r.few, sum), grind (arith, common_steps, r.few, sum));
       read = HasRead-append _ c.loop-chunk.bytes.items r.bytes _ _ c.loop-chunk.invariant.front r.read;
     }
 
