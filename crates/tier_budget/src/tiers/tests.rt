@@ -1,21 +1,23 @@
 //! The journal of two patches that come at once, and what a tier takes and gives up by its wishes.
 
-ghost use Rattle.std.specs.Prelude.{◌≡◌, ◌+◌, ◌≤◌, ◌<◌, Some, None, [], true, length, slice_get, slice_index, IfOk};
-ghost use Rattle.tier_model.specs.declared.turns.Turn.TheVariants.{Reserve, Got, Evict};
-ghost use Rattle.tier_model.specs.Tiers.{count, load, size, IsBodyFor};
+ghost use Rattle.std.specs.Prelude.{◌≡◌, ◌+◌, ◌≤◌, Some, None, [], true, false, length, slice_get, slice_index};
+ghost use Rattle.tier_model.specs.declared.turns.Turn.TheVariants.{Reserve, Got};
+ghost use Rattle.tier_model.specs.Places.{is_marked};
+ghost use Rattle.tier_model.specs.Tiers.{load, size, places, IsBodyFor};
 ghost use Rattle.tier_budget.specs.TierView.{Allows};
+ghost use Rattle.view_outside.specs.Files.{HasFile};
 
 use super::Tier;
 use crate::coming::{comes, first_patch, first_without_body};
 use crate::marks::has_mark;
 use crate::{Abort, Coming, Turn, Wishes};
-use patch_file::{Body, Index, read_body, read_index};
+use patch_file::{Body, Index, ReadRefusal, read_body, read_index};
 use sample_files::strip;
 use std::alloc::Global;
 use std::default::MadeWith;
 use std::sync::Arc;
 use std::test::Fail;
-use view_outside::{MemoryStore, NamedFile};
+use view_outside::{MemoryStore, NamedFile, Store};
 
 /// The wish of each patch of the strip.
 #[derive(Drop)]
@@ -39,17 +41,24 @@ impl Wishes for Listed {
     }
 }
 
+/// Reads the index and the bodies of the file of number 0.
+fn read_all<S: Store>(alloc: Global, store: &mut S) -> Result<(Index, Vec<Arc<Body>>), ReadRefusal>
+    requires { HasFile (S.files store.old) 0 }
+{
+    let index = read_index(alloc, store, 0)?;
+    let mut bodies = Vec::new(alloc);
+    for patch in 0..index.patch_count() {
+        let body = read_body(alloc, &index, store, 0, patch)?;
+        bodies.push(Arc::new(alloc, body)?)?;
+    }
+    Ok((index, bodies))
+}
+
 /// The index and the bodies of the strip.
 fn strip_bodies(alloc: Global) -> Result<(Index, Vec<Arc<Body>>), Fail> {
     let file = NamedFile::new(String::from_str(alloc, "T")?, strip().to_vec(alloc)?);
     let mut store = MemoryStore::new(vec![in alloc; file]?, Vec::new(alloc), Vec::new(alloc));
-    let index = read_index(alloc, &mut store, 0)?;
-    let mut bodies = Vec::new(alloc);
-    for patch in 0..index.patch_count() {
-        let body = read_body(alloc, &index, &mut store, 0, patch)?;
-        bodies.push(Arc::new(alloc, body)?)?;
-    }
-    Ok((index, bodies))
+    Ok(read_all(alloc, &mut store)?)
 }
 
 /// Whether the patch may be reserved, but for the journal's place.
@@ -112,7 +121,9 @@ fn may_arrive(tier: &Tier, body: &Body) -> bool
 
 /// Whether the patch may leave, but for the journal's place.
 fn may_leave(tier: &Tier, patch: u32) -> bool
-    ensures { result ≡ true → Allows tier.now.state (Evict patch) }
+    ensures idle { result ≡ true → tier.now.state.coming ≡ [] }
+    ensures held { result ≡ true → slice_get (places tier.now.state).held patch ≡ Some true }
+    ensures free { result ≡ true → is_marked tier.now.state.pinned patch ≡ false }
 {
     if patch as usize >= tier.sizes.len() {
         return false;
@@ -120,7 +131,13 @@ fn may_leave(tier: &Tier, patch: u32) -> bool
     if !tier.coming.is_empty() {
         return false;
     }
-    tier.held(patch).is_some() && !has_mark(&tier.pinned, patch)
+    if has_mark(&tier.pinned, patch) {
+        return false;
+    }
+    match tier.held(patch) {
+        Some(_) => true,
+        None => false,
+    }
 }
 
 fn pin(tier: &mut Tier, body: Arc<Body>) -> Result<(), Fail> {
@@ -205,14 +222,29 @@ fn two_patches_come_at_once(rt: HostRuntime) -> Result<(), Fail> {
     pin(&mut tier, second.clone()?)?;
     reserve(&mut tier, 2)?;
     reserve(&mut tier, 3)?;
-    let bare = [Coming { patch: 2, has_body: false }, Coming { patch: 3, has_body: false }];
+    let bare = [
+        Coming {
+            patch: 2,
+            has_body: false,
+        },
+        Coming {
+            patch: 3,
+            has_body: false,
+        },
+    ];
     assert_eq!(rt; tier.coming(), bare.as_slice());
-    assert_eq!(rt; (tier.budget(), tier.load(), tier.held_count(), tier.width()), (240, 240, 2, 2));
+    assert_eq!(rt;
+        (tier.budget(), tier.load(), tier.held_count(), tier.width()),
+        (240, 240, 2, 2)
+    );
     arrive(&mut tier, third.clone()?)?;
     arrive(&mut tier, fourth.clone()?)?;
     commit(&mut tier)?;
     commit(&mut tier)?;
-    assert_eq!(rt; (tier.load(), tier.held_count(), tier.pinned_bytes()), (240, 4, 120));
+    assert_eq!(rt;
+        (tier.load(), tier.held_count(), tier.pinned_bytes()),
+        (240, 4, 120)
+    );
     let journal = [
         Turn::Reserve(2),
         Turn::Reserve(3),
@@ -241,7 +273,10 @@ fn takes_the_highest_and_gives_up_the_lowest(rt: HostRuntime) -> Result<(), Fail
     reserve(&mut tier, 2)?;
     arrive(&mut tier, third.clone()?)?;
     commit(&mut tier)?;
-    assert_eq!(rt; (least_held(&tier, 3), least_held(&tier, 6)), (Some(2), None));
+    assert_eq!(rt;
+        (least_held(&tier, 3), least_held(&tier, 6)),
+        (Some(2), None)
+    );
     reserve(&mut tier, 3)?;
     abort(&mut tier, Abort::Fault)?;
     assert_eq!(rt; tier.greatest_missing(|_| true), Some(4));
@@ -267,6 +302,13 @@ fn takes_the_highest_and_gives_up_the_lowest(rt: HostRuntime) -> Result<(), Fail
 #[test]
 fn a_tier_of_no_patches(rt: HostRuntime) -> Result<(), Fail> {
     let mut tier = Tier::made_with(rt.alloc());
-    assert_eq!(rt; (tier.load(), tier.held_count(), tier.greatest_missing(|_| true)), (0, 0, None));
+    assert_eq!(rt;
+        (
+            tier.load(),
+            tier.held_count(),
+            tier.greatest_missing(|_| true)
+        ),
+        (0, 0, None)
+    );
     Ok(())
 }
