@@ -1,5 +1,5 @@
 -- What the bytes that were read answer for all that there are.
-use Rattle.std.proofs.Common.{◌≡◌, ℕ, ◌+◌, ◌-◌, ◌<◌, ◌≤◌, ◌⊎◌, Bool, true, List, [], ◌∷◌, ◌++◌, length, drop, Option, Some, None, Result, Ok, Err, IfSome, IfErr, MatchResult, refl, sym, ap, subst, ◌∙◌, inl, inr, append-nil, length-append, length-drop, nat_lt, arith}
+use Rattle.std.proofs.Common.{◌≡◌, ℕ, ◌+◌, ◌-◌, ◌<◌, ◌≤◌, ◌⊎◌, true, List, [], ◌∷◌, ◌++◌, length, drop, Option, Some, None, Result, Ok, Err, IfSome, IfErr, MatchResult, refl, sym, ap, subst, ◌∙◌, inl, inr, append-nil, length-append, length-drop, nat_lt, arith}
 use Rattle.std.proofs.lemmas.Bool.{cases_lt, lt-ltb}
 use Rattle.view_outside.specs.OnlyRead.{OnlyIf}
 use Rattle.text_model.specs.declared.faults.ScriptFault.{ScriptFault}

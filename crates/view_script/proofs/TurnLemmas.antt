@@ -1,5 +1,5 @@
 -- Lines that are read one after another.
-use Rattle.std.proofs.Common.{◌≡◌, ℕ, ◌+◌, ◌<◌, ◌≤◌, List, [], ◌∷◌, ◌++◌, length, get_or, drop, Option, Some, None, Result, Ok, Err, refl, sym, ap, ◌∙◌, append_assoc, append-nil}
+use Rattle.std.proofs.Common.{◌≡◌, ℕ, ◌+◌, ◌<◌, ◌≤◌, List, [], ◌++◌, length, get_or, drop, Option, Result, Ok, Err, refl, sym, ap, ◌∙◌, append_assoc, append-nil}
 use Rattle.std.specs.Option.{option_to_list}
 use Rattle.std.proofs.lemmas.List.{at_drop_more, at_drop_all}
 use Rattle.text_model.specs.declared.faults.ScriptFault.{ScriptFault}
@@ -40,7 +40,7 @@ unfolding lines_in
 line_read mode tiers history number pieces n piece front whole read within here is so_far =
     so_far ∙ ap (with_front front) (at_drop_more (lines_in mode tiers history number) pieces n piece within)
     ∙ first_read front (line_in mode tiers history number (get_or pieces n piece)) (λ line. lines_in mode tiers (history_behind history line) (number + 1) (drop (n + 1) pieces)) read
-        (ap (line_in mode tiers history number) (sym here) ∙ is)
+    (ap (line_in mode tiers history number) (sym here) ∙ is)
 
 -- the line at this place has a fault
 pub line_faulty : (mode : Mode) (tiers : ℕ) (history : History) (number : ℕ) (pieces : List (List ℕ)) (n : ℕ) (piece : List ℕ) (front : List Line) (whole : Result (List Line) ScriptFault) (fault : ScriptFault)
@@ -50,7 +50,7 @@ unfolding lines_in
 line_faulty mode tiers history number pieces n piece front whole fault within here is so_far =
     so_far ∙ ap (with_front front) (at_drop_more (lines_in mode tiers history number) pieces n piece within)
     ∙ ap (λ f. with_front front (behind f (λ line. lines_in mode tiers (history_behind history line) (number + 1) (drop (n + 1) pieces))))
-        (ap (line_in mode tiers history number) (sym here) ∙ is)
+    (ap (line_in mode tiers history number) (sym here) ∙ is)
 
 -- the refusal of the line at this place is one of the script
 pub line_refused : (mode : Mode) (tiers : ℕ) (history : History) (number : ℕ) (pieces : List (List ℕ)) (n : ℕ) (piece : List ℕ) (front : List Line) (whole : Result (List Line) ScriptFault) (refusal : ScriptRefusal)

@@ -88,12 +88,7 @@ impl Script {
 
 // The script that the bytes are.
 #[tactic(auto, unfolding(script_model::specs::Scripts::script_in))]
-fn script_of(
-    alloc: Global,
-    mode: Mode,
-    tiers: u32,
-    bytes: &[u8],
-) -> Result<Script, ScriptRefusal>
+fn script_of(alloc: Global, mode: Mode, tiers: u32, bytes: &[u8]) -> Result<Script, ScriptRefusal>
     ensures value { Gives (λ script. script.lines) result (script_in mode tiers bytes.now) }
     ensures mode { IfOk result (λ script. script.mode ≡ mode) }
     ensures tiers { IfOk result (λ script. script.tiers ≡ tiers) }

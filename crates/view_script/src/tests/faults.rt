@@ -2,8 +2,8 @@
 
 use super::read;
 use crate::{Mode, ScriptRefusal};
-use std::process::Abort;
 use std::alloc::Global;
+use std::process::Abort;
 use text_model::ScriptFault;
 
 // The script for so many tiers has this fault.
@@ -53,7 +53,14 @@ fn faults_of_a_view(rt: HostRuntime) {
         ("view 1 0 0 0 1 1 4294967296", 8),
         ("view 1 0 0 0 1 1 -1", 8),
     ] {
-        has_fault(&rt, rt.alloc(), line, Mode::Play, 1, ScriptFault::Number(1, word));
+        has_fault(
+            &rt,
+            rt.alloc(),
+            line,
+            Mode::Play,
+            1,
+            ScriptFault::Number(1, word),
+        );
     }
 }
 

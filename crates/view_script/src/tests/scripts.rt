@@ -56,7 +56,10 @@ fn lines_of_a_session(rt: HostRuntime) -> Result<(), Fail> {
         },
     ];
     assert_eq!(rt; script.lines().len(), 7);
-    assert_eq!(rt; script.of_session(rt.alloc(), 64)?.as_slice(), lines.as_slice());
+    assert_eq!(rt;
+        script.of_session(rt.alloc(), 64)?.as_slice(),
+        lines.as_slice()
+    );
     assert_eq!(rt; script.of_session(rt.alloc(), 2)?.len(), 0);
     Ok(())
 }

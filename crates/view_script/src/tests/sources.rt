@@ -67,6 +67,11 @@ fn a_source_that_fails(rt: HostRuntime) -> Result<(), Fail> {
     }
     let text = b"open 1\n".to_vec(alloc)?;
     let mut source = MemorySource::new(text, 1, vec![in alloc; 9]?);
-    assert_eq!(rt; read_script(alloc, &mut source, Mode::Play, 1)?.lines().len(), 1);
+    assert_eq!(rt;
+        read_script(alloc, &mut source, Mode::Play, 1)?
+            .lines()
+            .len(),
+        1
+    );
     Ok(())
 }

@@ -1,4 +1,3 @@
-use Rattle.std.proofs.Common.{arith}
 use Rattle.view_script.proofs.AnswerLemmas.{gives_all}
 use Rattle.view_script.proofs.scripts.read_script.Goals as goal
 

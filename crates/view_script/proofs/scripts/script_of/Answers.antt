@@ -1,4 +1,3 @@
-use Rattle.std.proofs.Common.{ap}
 use Rattle.script_model.specs.ScriptLaws.{are_lines}
 use Rattle.view_script.proofs.scripts.script_of.Goals as goal
 

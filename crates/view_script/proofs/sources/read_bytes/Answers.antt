@@ -1,4 +1,4 @@
-use Rattle.std.proofs.Common.{◌++◌, length, length-append, arith, rules}
+use Rattle.std.proofs.Common.{◌++◌, length-append, arith, rules}
 use Rattle.std.proofs.lemmas.Grind.{common_steps}
 use Rattle.view_script.specs.declared.sources.TheConstants.{MOST_READ}
 use Rattle.view_script.proofs.ReadLemmas.{HasRead-append, through_end, through_most}
@@ -17,9 +17,9 @@ pub returns-then-branch-eq0-clause-through : goal.returns-then-branch-eq0-clause
 returns-then-branch-eq0-clause-through g c =
     let a = c.in_ok-read_piece.ensures.added in
     through_end MOST_READ _ (c.loop-chunk.bytes.items ++ a.piece) _
-        (HasRead-append _ c.loop-chunk.bytes.items a.piece _ _ c.loop-chunk.invariant.front a.read)
-        (c.in_ok-read_piece.ensures.end c.if-branch-eq0.true)
-        (omega (arith, length-append c.loop-chunk.bytes.items a.piece, a.many, c.loop-chunk.bytes.ok.0))
+    (HasRead-append _ c.loop-chunk.bytes.items a.piece _ _ c.loop-chunk.invariant.front a.read)
+    (c.in_ok-read_piece.ensures.end c.if-branch-eq0.true)
+    (omega (arith, length-append c.loop-chunk.bytes.items a.piece, a.many, c.loop-chunk.bytes.ok.0))
 
 pub returns-clause-through : goal.returns-clause-through
 returns-clause-through g c = through_most MOST_READ _ c.loop-chunk.bytes.items _ c.loop-chunk.invariant.front (omega (arith, c.loop-chunk.bytes.ok.0))

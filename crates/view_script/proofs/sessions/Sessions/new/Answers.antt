@@ -3,7 +3,6 @@ use Rattle.std.proofs.Math.ListN.{replicate}
 use Rattle.std.proofs.Math.Path.{fun_ext}
 use Rattle.std.proofs.lemmas.Bool.{cases_lt}
 use Rattle.std.proofs.lemmas.List.{get_or-replicate, get_or_past, length-replicate}
-use Rattle.script_model.specs.declared.stages.SessionStage.{SessionStage}
 use Rattle.script_model.specs.declared.stages.SessionStage.TheVariants.{Closed}
 use Rattle.view_script.proofs.sessions.Sessions.new.Goals as goal
 
