@@ -1,0 +1,2 @@
+pub mod ComingWalks
+pub mod IndexWalks

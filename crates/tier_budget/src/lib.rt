@@ -1,0 +1,17 @@
+//! A tier of the cache: which patches it holds and which come, within a budget of bytes.
+//!
+//! A tier's journal says what it did. The bytes of the patches that are held or come never pass the
+//! budget, and all memory is taken where a tier is made and where a place in its journal is. What a tier
+//! is, and each of its changes, stands in `tier_model`; `docs/MODEL.md` tells it in prose.
+#![tactic(auto)]
+
+mod aside;
+mod coming;
+mod lists;
+mod marks;
+mod tiers;
+mod wishes;
+
+pub use tier_model::{Abort, Coming, Turn};
+pub use tiers::Tier;
+pub use wishes::Wishes;

@@ -1,0 +1,17 @@
+pub mod Places
+pub mod Tiers
+pub mod Changes
+pub mod Ranks
+pub mod Choices
+pub mod Turns
+pub mod Ties
+pub mod Counts
+pub mod Chains
+pub mod Settling
+pub mod ComingLaws
+pub mod LoadLaws
+pub mod BodyLaws
+pub mod TierLaws
+pub mod RankLaws
+pub mod TopmostLaws
+pub mod Follows
