@@ -97,18 +97,20 @@ arrived_others p (c ∷ cs) q ne =
   where
     apart : (r : ℕ) → eqb r q ≡ false → (eqb r q && true) ≡ false
     apart r h = and_left (eqb r q) true h
+
     apart_of : (d : Coming) → eqb d.patch q ≡ false → (eqb d.patch q && d.has_body) ≡ false
     apart_of d h = and_left (eqb d.patch q) d.has_body h
 
 pub arrived_apart : (p : ℕ) (cs : List Coming) → AreApart cs → AreApart (with_body p cs)
 unfolding AreApart with_body
 arrived_apart p [] apart = tt
-arrived_apart p (c ∷ cs) apart =
-    (arrived_comes p cs (cond (eqb c.patch p) (full p) c).patch
-    ∙ cond_both (eqb c.patch p) (full p) c (λ (d : Coming). is_coming cs d.patch ≡ false)
-    (λ is. subst (λ (n : ℕ). is_coming cs n ≡ false) (eqb-true c.patch p is) apart.0)
-    (λ never. apart.0),
-    arrived_apart p cs apart.1)
+arrived_apart p (c ∷ cs) apart = (
+  arrived_comes p cs (cond (eqb c.patch p) (full p) c).patch
+      ∙ cond_both (eqb c.patch p) (full p) c (λ (d : Coming). is_coming cs d.patch ≡ false)
+      (λ is. subst (λ (n : ℕ). is_coming cs n ≡ false) (eqb-true c.patch p is) apart.0)
+      (λ never. apart.0),
+  arrived_apart p cs apart.1,
+)
 
 pub arrived_length : (p : ℕ) (cs : List Coming) → length (with_body p cs) ≡ length cs
 unfolding with_body

@@ -3,6 +3,7 @@ pub mod Tiers
 pub mod Changes
 pub mod Ranks
 pub mod Choices
+pub mod Answers
 pub mod Turns
 pub mod Ties
 pub mod Counts
@@ -14,4 +15,12 @@ pub mod BodyLaws
 pub mod TierLaws
 pub mod RankLaws
 pub mod TopmostLaws
+pub mod Chosen
 pub mod Follows
+pub mod TurnLaws
+pub mod TieLaws
+pub mod SingleTurns
+pub mod SingleLaws
+pub mod OpeningLaws
+pub mod ChainLaws
+pub mod TierLoads

@@ -71,7 +71,7 @@ IsTier-arrived s p body tier needs right =
         away = λ q comes. tier.coming.away q (sym (arrived_comes p s.coming q) ∙ comes);
         arrived = λ q. elim (cases_eq q p) [
           | inl same ↦ subst (λ (n : ℕ). is_full (with_body p s.coming) n ≡ is_some (slice_index_or (slice_set s.came p (Some body)) n None)) (sym same)
-            (arrived_full p s.coming comes ∙ sym (ap (λ o. is_some o) (get_or-set_same s.came p (Some body) None (let sized = tier.sized.came in omega arith))))
+              (arrived_full p s.coming comes ∙ sym (ap (λ o. is_some o) (get_or-set_same s.came p (Some body) None (let sized = tier.sized.came in omega arith))))
           | inr ne ↦ arrived_others p s.coming q ne ∙ tier.coming.arrived q ∙ sym (ap (λ o. is_some o) (get_or-set_other s.came p q (Some body) None ne))
         ];
       };
@@ -111,7 +111,7 @@ IsTier-aborted s p why tier needs =
         away = λ q comes. tier.coming.away q (gone_came p s.coming q comes);
         arrived = λ q. elim (cases_eq q p) [
           | inl same ↦ subst (λ (n : ℕ). is_full (without p s.coming) n ≡ is_some (slice_index_or s.came n None)) (sym same)
-            (gone_full p s.coming ∙ sym (bare_not_full s.coming p tier.coming.apart needs) ∙ tier.coming.arrived p)
+              (gone_full p s.coming ∙ sym (bare_not_full s.coming p tier.coming.apart needs) ∙ tier.coming.arrived p)
           | inr ne ↦ gone_full_others p s.coming q ne ∙ tier.coming.arrived q
         ];
       };
@@ -145,7 +145,7 @@ IsTier-committed s p tier needs =
         away = λ q there. get-set_other s.held p q body (λ is. both_ways (is_coming (without p s.coming) q) (subst (λ (n : ℕ). is_coming (without p s.coming) n ≡ false) (sym is) (gone_comes p s.coming)) there) ∙ tier.coming.away q (gone_came p s.coming q there);
         arrived = λ q. elim (cases_eq q p) [
           | inl is ↦ subst (λ (n : ℕ). is_full (without p s.coming) n ≡ is_some (slice_index_or (slice_set s.came p None) n None)) (sym is)
-            (gone_full p s.coming ∙ sym (ap (λ o. is_some o) (get_or-set_same s.came p None None (let sized = tier.sized.came in omega arith))))
+              (gone_full p s.coming ∙ sym (ap (λ o. is_some o) (get_or-set_same s.came p None None (let sized = tier.sized.came in omega arith))))
           | inr ne ↦ gone_full_others p s.coming q ne ∙ tier.coming.arrived q ∙ sym (ap (λ o. is_some o) (get_or-set_other s.came p q None None ne))
         ];
       };

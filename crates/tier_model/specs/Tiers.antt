@@ -5,6 +5,7 @@ use Rattle.file_model.specs.declared.fields.PatchField.{PatchField}
 use Rattle.file_model.specs.Lists.{IndexLists, SeenBody, body_size, no_body}
 use Rattle.mesh_model.specs.Graph.{is_root}
 use Rattle.tier_model.specs.declared.turns.Turn.{Turn}
+use Rattle.tier_model.specs.declared.turns.TheConstants.{MOST_WIDTH}
 use Rattle.tier_model.specs.declared.turns.Coming.{Coming}
 use Rattle.tier_model.specs.Places.{Places, is_coming, is_full, AreApart, marked_bytes, load_of, Replays}
 
@@ -53,10 +54,10 @@ load s = load_of s.sizes (places s)
 abbrev pub pinned_bytes : TierState → ℕ
 pinned_bytes s = marked_bytes s.sizes s.pinned
 
--- a tier takes from 1 to 8 patches at a time
+-- to a tier come from 1 to 8 patches at a time, at most
 pub record IsWidth (width : ℕ) : Type 0 where
   pub some_come : 1 ≤ width
-  pub few_come : width ≤ 8
+  pub few_come : width ≤ MOST_WIDTH
 
 -- each list that goes by patch has an item for each patch
 pub record IsSized (s : TierState) : Type 0 where

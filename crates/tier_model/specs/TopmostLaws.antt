@@ -1,8 +1,8 @@
 -- Laws of the topmost: there is one choice, and it is the topmost.
-use Rattle.std.proofs.Common.{◌≡◌, ℕ, zero, suc, ◌<◌, Bool, true, false, not, ◌||◌, eqb, Option, Some, None, refl, sym, ap, subst, arith, inl, inr}
+use Rattle.std.proofs.Common.{◌≡◌, ℕ, zero, suc, ◌<◌, Bool, true, false, not, ◌&&◌, ◌||◌, eqb, Option, Some, None, refl, sym, ap, subst, arith, inl, inr}
 use Rattle.std.proofs.lemmas.Bool.{cond_both, cases_eq, cases_Bool, both_ways, and_parts, and_from, or_cases, or_left, or_right, eq-eqb, eqb-true, not_from_false, not-true}
 use Rattle.tier_model.specs.Ranks.{IsRanking}
-use Rattle.tier_model.specs.Choices.{some_below, all_below, is_topmost, topmost, IsTopmost, Chooses, ChoosesBy}
+use Rattle.tier_model.specs.Choices.{some_below, all_below, is_topmost, topmost, IsTopmost, Chooses, ChoosesBy, OrAnswers}
 
 -- ---- what the recursions tell
 
@@ -120,30 +120,38 @@ choice_without n fits above (Some p) fails top = record {
 
 -- n more stands above or below the one so far
 choice_with : (n : ℕ) (fits : ℕ → Bool) (above : ℕ → ℕ → Bool) (o : Option ℕ) → IsRanking above → fits n ≡ true → Chooses n fits above o → (found : Option ℕ) × Chooses (suc n) fits above found
-choice_with n fits above None ranking fit none =
-    (Some n, record {
-      within = omega arith;
-      passes = fit;
-      beats = λ q within fits_too ne. absurd (both_ways (fits q) (none q (omega arith)) fits_too);
-    })
+choice_with n fits above None ranking fit none = (
+  Some n,
+  record {
+    within = omega arith;
+    passes = fit;
+    beats = λ q within fits_too ne. absurd (both_ways (fits q) (none q (omega arith)) fits_too);
+  },
+)
 choice_with n fits above (Some p) ranking fit top =
     elim (ranking.either p n (let within = top.within in omega arith)) [
-      | inl beats ↦ (Some p, record {
-        within = let within = top.within in omega arith;
-        passes = top.passes;
-        beats = λ q within fits_too ne. elim (cases_eq q n) [
-          | inl same ↦ subst (λ (k : ℕ). above p k ≡ true) (sym same) beats
-          | inr other ↦ top.beats q (omega arith) fits_too ne
-        ];
-      })
-      | inr beaten ↦ (Some n, record {
-        within = omega arith;
-        passes = fit;
-        beats = λ q within fits_too ne. elim (cases_eq q p) [
-          | inl same ↦ subst (λ (k : ℕ). above n k ≡ true) (sym same) beaten
-          | inr other ↦ ranking.chain n p q beaten (top.beats q (omega arith) fits_too other)
-        ];
-      })
+      | inl beats ↦ (
+        Some p,
+        record {
+          within = let within = top.within in omega arith;
+          passes = top.passes;
+          beats = λ q within fits_too ne. elim (cases_eq q n) [
+            | inl same ↦ subst (λ (k : ℕ). above p k ≡ true) (sym same) beats
+            | inr other ↦ top.beats q (omega arith) fits_too ne
+          ];
+        },
+      )
+      | inr beaten ↦ (
+        Some n,
+        record {
+          within = omega arith;
+          passes = fit;
+          beats = λ q within fits_too ne. elim (cases_eq q p) [
+            | inl same ↦ subst (λ (k : ℕ). above n k ≡ true) (sym same) beaten
+            | inr other ↦ ranking.chain n p q beaten (top.beats q (omega arith) fits_too other)
+          ];
+        },
+      )
     ]
 
 has_choice : (n : ℕ) (fits : ℕ → Bool) (above : ℕ → ℕ → Bool) → IsRanking above → (found : Option ℕ) × Chooses n fits above found
@@ -173,3 +181,8 @@ chooses-by_answers n fits answers above (Some p) one chooses = record {
     | inr beats ↦ beats
   ];
 }
+
+-- where a test is asked, its answer is that of both tests
+pub or_answers-is : (asked test : Bool) (answers : Bool → Type 0) (answer : Bool) → ((b : Bool) → answers b → test ≡ b) → OrAnswers asked answers answer → (asked && test) ≡ answer
+or_answers-is true test answers answer one h = one answer h
+or_answers-is false test answers answer one h = sym h

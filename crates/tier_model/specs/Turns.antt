@@ -9,6 +9,7 @@ use Rattle.tier_model.specs.declared.turns.Turn.TheVariants.{Reserve, Evict, Kep
 use Rattle.tier_model.specs.Places.{first_coming, first_bare}
 use Rattle.tier_model.specs.Tiers.{TierState, size, load, body_at, IsBodyFor}
 use Rattle.tier_model.specs.Changes.{reserved, arrived, aborted, committed, dropped, passed_over, calmed, renewed, ranked}
+use Rattle.tier_model.specs.Answers.{IfGot}
 use Rattle.tier_model.specs.Choices.{Told, candidate, victim}
 
 -- what a fetch gave
@@ -127,18 +128,6 @@ IsRankedTurn told before answer after = paired answer after ≡ ranked_turn_of t
 
 abbrev pub IsTurn : Board → Told → TierState → Turn → TierState → Type 0
 IsTurn board told before answer after = paired answer after ≡ turn_of board told before (outcome_in answer after)
-
--- what holds of the patch whose body came
-abbrev pub IfGot : Turn → (ℕ → Type 0) → Type 0
-IfGot (Got p) P = P p
-IfGot (Reserve p) P = Unit {0}
-IfGot (Evict p) P = Unit {0}
-IfGot (Kept p uses) P = Unit {0}
-IfGot (Lost p) P = Unit {0}
-IfGot (Fault p) P = Unit {0}
-IfGot (Changed p fault) P = Unit {0}
-IfGot (Commit p) P = Unit {0}
-IfGot Idle P = Unit {0}
 
 -- the body that came is of its patch, and has its size
 abbrev pub BringsBody : List ℕ → Turn → TierState → Type 0

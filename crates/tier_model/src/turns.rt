@@ -2,6 +2,9 @@
 
 use file_model::FileFault;
 
+/// How many patches come to a tier at once, at most.
+pub const MOST_WIDTH: u32 = 8;
+
 /// What one turn of a tier did. All but `Kept` and `Idle` are kept in the tier's journal.
 #[derive(Clone, Copy, Debug, PartialEq, Eq)]
 pub enum Turn {
