@@ -4,12 +4,19 @@
 //! first rule that applies, which `docs/MODEL.md` tells in prose.
 #![tactic(auto)]
 
+mod admitting;
+mod evicting;
 mod fetches;
+mod fetching;
+mod rules;
 mod store_supply;
 mod supplies;
 mod tier_supply;
+mod turns;
 
 pub use fetches::Fetch;
 pub use store_supply::StoreSupply;
 pub use supplies::Supply;
+pub use tier_budget::{Tier, Turn};
 pub use tier_supply::TierSupply;
+pub use turns::{ranked_turn, take_wishes, turn};
