@@ -65,3 +65,29 @@ TurnTakes sizes Idle before now = now ≡ before
 -- the size of the body that is to be fetched next
 abbrev pub next_size : TierState → ℕ
 next_size s = option_map_or (size s) (first_bare s.coming) 0
+
+-- ---- kinds of turns
+
+-- a patch was to be fetched
+abbrev pub IsFetching : Turn → Type 0
+IsFetching (Got p) = Unit {0}
+IsFetching (Lost p) = Unit {0}
+IsFetching (Fault p) = Unit {0}
+IsFetching (Changed p fault) = Unit {0}
+IsFetching (Reserve p) = ⊥
+IsFetching (Evict p) = ⊥
+IsFetching (Kept p uses) = ⊥
+IsFetching (Commit p) = ⊥
+IsFetching Idle = ⊥
+
+-- a patch was to leave, or there was nothing to do
+abbrev pub IsLeaving : Turn → Type 0
+IsLeaving (Evict p) = Unit {0}
+IsLeaving (Kept p uses) = Unit {0}
+IsLeaving Idle = Unit {0}
+IsLeaving (Reserve p) = ⊥
+IsLeaving (Got p) = ⊥
+IsLeaving (Lost p) = ⊥
+IsLeaving (Fault p) = ⊥
+IsLeaving (Changed p fault) = ⊥
+IsLeaving (Commit p) = ⊥

@@ -1,9 +1,9 @@
 //! Which patch comes next.
 
-ghost use Rattle.std.specs.Prelude.{◌≡◌, ℕ, ◌<◌, ◌≤◌, true, not, ◌||◌, length, nat_lt, slice_index, MatchOption};
+ghost use Rattle.std.specs.Prelude.{◌≡◌, ℕ, ◌<◌, ◌≤◌, Bool, true, not, ◌||◌, length, nat_lt, slice_index, MatchOption};
 ghost use Rattle.token_words.specs.declared.keeping.TheConstants.{LAST_EPOCH};
 ghost use Rattle.tier_model.specs.Tiers.{count, sizes_of};
-ghost use Rattle.tier_model.specs.Choices.{candidate};
+ghost use Rattle.tier_model.specs.Choices.{Told, is_admissible, candidate};
 ghost use Rattle.tier_model.specs.Turns.{fitting};
 ghost use Rattle.transfer_step.specs.TurnWords.{told_of, may_come, sought};
 
@@ -44,6 +44,18 @@ fn is_admissible<B: Supply, K: Keeper>(
     body_size(index, patch) <= room && below.has(patch) && may_rise(keeper, patch)
 }
 
+/// The highest missing patch that passes the test, which is the candidate of a tier that is told so that the
+/// test answers which patches are admissible.
+fn find_missing<F: Fn(u32) -> bool>(tier: &mut Tier, fits: F) -> Option<u32>
+    requires { (p : ℕ) → p < count tier.old.state → F.pre fits p }
+    ensures candidate { (told : Told) → ((p : ℕ) (answer : Bool) → p < count tier.old.state → F.post fits p answer → is_admissible told tier.old.state p ≡ answer)
+        → result ≡ candidate told tier.old.state }
+    ensures same { tier.new.state ≡ tier.old.state }
+    ensures spare { tier.new.spare ≡ tier.old.spare }
+{
+    tier.greatest_missing(fits)
+}
+
 /// The candidate of the tier.
 fn find_candidate<B: Supply, K: Keeper>(
     index: &Index,
@@ -59,12 +71,15 @@ fn find_candidate<B: Supply, K: Keeper>(
     ensures spare { tier.new.spare ≡ tier.old.spare }
 {
     let room = tier.budget().saturating_sub(tier.pinned_bytes());
-    tier.greatest_missing(|patch: u32| -> bool
-        requires index { patch < length (sizes_of index.now) }
-        requires supply { patch < length (B.sizes (B.place below.now)) }
-        requires words { K.has_words ≡ true → patch < K.patches keeper.now }
-        ensures { result ≡ may_come (told_of (B.has (B.place below.entry.now)) K.has_words (K.epochs keeper.entry.now)) (sizes_of index.entry.now) room patch }
-    { is_admissible(index, below, keeper, room, patch) })
+    find_missing(
+        tier,
+        |patch: u32| -> bool
+            requires index { patch < length (sizes_of index.now) }
+            requires supply { patch < length (B.sizes (B.place below.now)) }
+            requires words { K.has_words ≡ true → patch < K.patches keeper.now }
+            ensures { result ≡ may_come (told_of (B.has (B.place below.entry.now)) K.has_words (K.epochs keeper.entry.now)) (sizes_of index.entry.now) room patch }
+        { is_admissible(index, below, keeper, room, patch) },
+    )
 }
 
 /// The candidate, where fewer patches come than the tier is wide.

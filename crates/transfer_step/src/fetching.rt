@@ -7,7 +7,7 @@ ghost use Rattle.tier_model.specs.Places.{first_bare};
 ghost use Rattle.tier_model.specs.Tiers.{size, body_at, IsTier};
 ghost use Rattle.tier_model.specs.Answers.{IfGot, IfFault, IfChanged};
 ghost use Rattle.tier_model.specs.Turns.{fetching, fetched_in, paired, BringsBody};
-ghost use Rattle.transfer_step.specs.TurnWords.{TurnTakes};
+ghost use Rattle.transfer_step.specs.TurnWords.{IsFetching, TurnTakes};
 
 use crate::fetches::Fetch;
 use crate::supplies::Supply;
@@ -27,6 +27,7 @@ pub fn fetch_patch<B: Supply>(
     requires bare { first_bare tier.old.state.coming ≡ Some patch }
     requires place { 1 ≤ tier.old.spare }
     ensures answer { IfOk result (λ a. paired a tier.new.state ≡ fetching (B.has (B.place below.old) patch) tier.old.state patch (fetched_in a tier.new.state)) }
+    ensures kind { IfOk result IsFetching }
     ensures none { OnErr result (tier.new.state ≡ tier.old.state) }
     ensures kept { IsTier tier.new.state }
     ensures brings { IfOk result (λ a. BringsBody tier.old.state.sizes a tier.new.state) }

@@ -20,15 +20,8 @@ use crate::supplies::Supply;
 use grid_vertex::NoMemory;
 use patch_file::Index;
 use std::alloc::Global;
-use tier_budget::{Coming, Tier, Turn, first_without_body};
+use tier_budget::{Tier, Turn, first_patch, first_without_body};
 use token_words::Keeper;
-
-/// The first patch that comes.
-fn first_patch(coming: &[Coming]) -> Option<u32>
-    ensures { result ≡ first_coming coming.now }
-{
-    coming.first().map(|one| one.patch)
-}
 
 /// Commits the first patch that comes, which is this one. Condition: all that come have bodies, and the
 /// journal has a place.
@@ -90,6 +83,7 @@ pub fn do_rule<B: Supply, K: Keeper>(
     ensures lock_sets { K.tells_sets ≡ true → SetsStay (K.session_locks keeper.old) (K.session_locks keeper.new) }
     ensures keeper { (K.place keeper.new ≡ K.place keeper.old) × (K.patches keeper.new ≡ K.patches keeper.old) }
 {
+    let _ = tier.budget();
     let ahead = seek(index, tier, below, keeper);
     if let Some(patch) = fitting(index, tier, ahead) {
         tier.reserve(patch);
