@@ -17,7 +17,7 @@ ghost use Rattle.body_loads.specs.Loads.{body_at, AreBodiesAt, lists_of};
 mod loads;
 mod refusals;
 
-pub use loads::load_bodies;
+pub use loads::{load_bodies, load_body};
 pub use refusals::LoadRefusal;
 
 /// What is loaded of a file is what the file says, and no body of it has a fault.

@@ -1,6 +1,7 @@
 //! The nodes of a cut and the patches of its frame.
 
 ghost use Rattle.std.specs.Prelude.{◌≡◌, ◌+◌, ◌≤◌, [], length, vec_len, vec_capacity, IfOk};
+ghost use Rattle.file_model.specs.declared.limits.TheConstants.{MOST_NODES, MOST_PATCHES};
 ghost use Rattle.mesh_model.specs.Graph.{nodes_where};
 ghost use Rattle.mesh_model.specs.Frames.{leads_out, frame_patches};
 ghost use Rattle.round_model.specs.Rounds.{has};
@@ -21,7 +22,7 @@ pub struct CutLists {
 fn list_nodes(nodes: &mut Vec<u32>, in_cut: &[bool])
     requires empty { nodes.old.items ≡ [] }
     requires room { length in_cut.now ≤ vec_capacity nodes.old }
-    requires few { length in_cut.now ≤ 65536 }
+    requires few { length in_cut.now ≤ MOST_NODES }
     ensures { nodes.new.items ≡ nodes_where (length in_cut.now) (has in_cut.now) }
 {
     for (node, is_in) in in_cut.iter().enumerate() {
@@ -35,7 +36,7 @@ fn list_nodes(nodes: &mut Vec<u32>, in_cut: &[bool])
 fn list_patches(patches: &mut Vec<u32>, fields: &[PatchField], in_cut: &[bool])
     requires empty { patches.old.items ≡ [] }
     requires room { length fields.now ≤ vec_capacity patches.old }
-    requires few { length fields.now ≤ 65536 }
+    requires few { length fields.now ≤ MOST_PATCHES }
     ensures { patches.new.items ≡ frame_patches (has in_cut.now) fields.now }
 {
     for (patch, field) in fields.iter().enumerate() {
@@ -72,8 +73,8 @@ impl CutLists {
     /// Lists the set and its frame. Condition: the lists are empty, and have room.
     pub fn fill(&mut self, in_cut: &[bool], fields: &[PatchField])
         requires room { HaveRoom (length in_cut.now) (length fields.now) self.old }
-        requires few_nodes { length in_cut.now ≤ 65536 }
-        requires few_patches { length fields.now ≤ 65536 }
+        requires few_nodes { length in_cut.now ≤ MOST_NODES }
+        requires few_patches { length fields.now ≤ MOST_PATCHES }
         ensures nodes { self.new.nodes.items ≡ nodes_where (length in_cut.now) (has in_cut.now) }
         ensures patches { self.new.patches.items ≡ frame_patches (has in_cut.now) fields.now }
     {

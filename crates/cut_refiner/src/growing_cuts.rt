@@ -2,6 +2,7 @@
 
 ghost use Rattle.std.specs.Prelude.{◌≡◌, ◌<◌, ◌≤◌, ◌-◌, length, replicate, slice_index, slice_set, true, false, IfOk, All};
 ghost use Rattle.std.specs.List.{sum_by};
+ghost use Rattle.file_model.specs.declared.limits.TheConstants.{MOST_IN_PATCH, MOST_PATCHES};
 ghost use Rattle.round_model.specs.Rounds.{has, has_parents, with_member, frame_size};
 ghost use Rattle.cut_refiner.specs.GrowingCuts.{triangles_at, IsGrowingCut, IsGrowing, AreCounts};
 
@@ -22,7 +23,7 @@ pub struct GrowingCut {
 /// How many triangles the patch has.
 fn triangles_in(field: &PatchField) -> u64
     ensures value { result ≡ field.now.triangles }
-    ensures few { result ≤ 65535 }
+    ensures few { result ≤ MOST_IN_PATCH }
 {
     u64::from(field.triangles)
 }
@@ -30,7 +31,7 @@ fn triangles_in(field: &PatchField) -> u64
 /// How many triangles the patches have together.
 fn triangles_of(fields: &[PatchField], patches: &[u32]) -> u64
     requires patches { All (λ p. p < length fields.now) patches.now }
-    requires few { length patches.now ≤ 65536 }
+    requires few { length patches.now ≤ MOST_PATCHES }
     ensures { result ≡ sum_by (triangles_at fields.now) patches.now }
 {
     let mut sum = 0;

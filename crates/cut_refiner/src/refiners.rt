@@ -40,6 +40,7 @@ impl<'m> Model for Refiner<'m> {
 impl<'m> Refiner<'m> {
     ghost use Rattle.std.specs.Prelude.{◌≡◌, ℕ, ◌<◌, ◌≤◌, [], length, IfOk};
     ghost use Rattle.file_model.specs.Lists.{FileLists};
+    ghost use Rattle.file_model.specs.declared.limits.TheConstants.{MOST_NODES, MOST_PATCHES};
     ghost use Rattle.mesh_model.specs.Nets.{HaveOneNet};
     ghost use Rattle.mesh_model.specs.Frames.{IsCut};
     ghost use Rattle.mesh_model.specs.Accepted.{IsAccepted, triangles_out_of};
@@ -146,7 +147,7 @@ impl<'m> Refiner<'m> {
         requires { pending_ask self.now ≡ Done }
         ensures nodes { result.now ≡ cut_of self.now }
         ensures cut { IsCut self.now.rules.mesh.index.fields self.now.rules.mesh.root (has (round_state self.now).set) }
-        ensures few { length result.now ≤ 65536 }
+        ensures few { length result.now ≤ MOST_NODES }
     {
         &self.lists.nodes
     }
@@ -156,7 +157,7 @@ impl<'m> Refiner<'m> {
         requires { pending_ask self.now ≡ Done }
         ensures patches { result.now ≡ cut_patches self.now }
         ensures boundary { (file : FileLists) → IsAccepted file self.now.rules.mesh.root → file.index ≡ self.now.rules.mesh.index → HaveOneNet (frame_of_set file (has (round_state self.now).set)) (triangles_out_of file self.now.rules.mesh.root) }
-        ensures few { length result.now ≤ 65536 }
+        ensures few { length result.now ≤ MOST_PATCHES }
     {
         &self.lists.patches
     }

@@ -1,6 +1,7 @@
 //! Adding a body's triangles to the sums of the base.
 
 ghost use Rattle.std.specs.Prelude.{◌+◌, ◌*◌, ◌≤◌, length, OnOk};
+ghost use Rattle.file_model.specs.declared.limits.TheConstants.{MOST_IN_PATCH, MOST_PATCHES};
 ghost use Rattle.dag_check.specs.Added.{AddsToBase};
 
 use body_edges::add_triangles;
@@ -17,7 +18,7 @@ pub fn add_to_base(
     tail: u32,
     body: &Body,
 ) -> Result<(), NoMemory>
-    requires { base.old.count ≤ 65535 * 65536 }
+    requires { base.old.count ≤ MOST_IN_PATCH * MOST_PATCHES }
     ensures count { OnOk result (base.new.count ≤ base.old.count + length body.now.lists.corners) }
     ensures nets { OnOk result (AddsToBase verdict tail body.now.lists base.old base.new) }
 {

@@ -1,6 +1,7 @@
 //! What is kept of one node.
 
 ghost use Rattle.std.specs.Prelude.{◌≡◌, ◌*◌, ◌^◌, ◌<◌, ◌≤◌, length, IfOk, OnOk};
+ghost use Rattle.file_model.specs.declared.limits.TheConstants.{MOST_IN_PATCH, MOST_PATCHES};
 ghost use Rattle.mesh_model.specs.Nets.{one_if};
 ghost use Rattle.dag_check.specs.NodeSums.{empty_node_sums, is_under_way, pairs_of, chain_on, IsGrown, settled, Compares, Takes};
 
@@ -59,7 +60,7 @@ impl NodeSums {
         side: Side,
         body: &Body,
     ) -> Result<Option<Difference>, NoMemory>
-        requires room { (chain_on side self.old).count ≤ 65535 * 65536 }
+        requires room { (chain_on side self.old).count ≤ MOST_IN_PATCH * MOST_PATCHES }
         requires left { 0 < self.old.total → 0 < self.old.left }
         ensures { IfOk result (Takes side body.now.lists self.old self.new) }
     {
@@ -75,7 +76,7 @@ impl NodeSums {
 
     // Adds a body to the sum on one side.
     fn grow(&mut self, side: Side, body: &Body) -> Result<(), NoMemory>
-        requires room { (chain_on side self.old).count ≤ 65535 * 65536 }
+        requires room { (chain_on side self.old).count ≤ MOST_IN_PATCH * MOST_PATCHES }
         requires left { 0 < self.old.left }
         ensures { OnOk result (IsGrown side body.now.lists self.old self.new) }
     {

@@ -61,9 +61,7 @@ fn is_in_range(number: u32, greatest: u32) -> bool
 fn are_in_range(eye: Point, focal: u32, threshold: u32) -> bool
     ensures { result ≡ is_view eye focal threshold }
 {
-    is_eye(eye)
-        && is_in_range(focal, GREATEST_FOCAL)
-        && is_in_range(threshold, GREATEST_THRESHOLD)
+    is_eye(eye) && is_in_range(focal, GREATEST_FOCAL) && is_in_range(threshold, GREATEST_THRESHOLD)
 }
 
 impl View {

@@ -1,6 +1,7 @@
 //! The patches on one side of each node, one list behind the other.
 
 ghost use Rattle.std.specs.Prelude.{◌≡◌, ◌<◌, ◌≤◌, length, slice_get, Some, IfOk};
+ghost use Rattle.file_model.specs.declared.limits.TheConstants.{MOST_PATCHES};
 ghost use Rattle.mesh_graph.specs.Chains.{HaveNodes};
 ghost use Rattle.mesh_graph.specs.Adjacency.{IsAdjacency, is_bare_at};
 
@@ -45,7 +46,7 @@ impl Adjacency {
         fields: &[PatchField],
     ) -> Result<Adjacency, NoMemory>
         requires ends { HaveNodes side nodes fields.now }
-        requires count { length fields.now ≤ 65536 }
+        requires count { length fields.now ≤ MOST_PATCHES }
         ensures { IfOk result (IsAdjacency side fields.now nodes) }
     {
         let chains = link(alloc, side, nodes, fields)?;

@@ -1,6 +1,7 @@
 //! The patches on one side of each node, as chains.
 
 ghost use Rattle.std.specs.Prelude.{◌≡◌, ℕ, ◌<◌, ◌≤◌, List, ◌++◌, length, slice_get, Some, OnOk, IfOk};
+ghost use Rattle.file_model.specs.declared.limits.TheConstants.{MOST_PATCHES};
 ghost use Rattle.file_model.specs.declared.fields.PatchField.{PatchField};
 ghost use Rattle.mesh_model.specs.Sides.{node_on};
 ghost use Rattle.mesh_graph.specs.Chains.{IsChain, AreLinked, HaveNodes};
@@ -27,7 +28,7 @@ pub fn link(
     fields: &[PatchField],
 ) -> Result<Chains, NoMemory>
     requires ends { HaveNodes side nodes fields.now }
-    requires count { length fields.now ≤ 65536 }
+    requires count { length fields.now ≤ MOST_PATCHES }
     ensures linked { IfOk result (λ chains. AreLinked side fields.now 0 chains.first.items chains.next.items) }
     ensures as_many { IfOk result (λ chains. length chains.first.items ≡ nodes) }
 {

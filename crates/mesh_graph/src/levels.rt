@@ -2,6 +2,7 @@
 
 ghost use Rattle.std.specs.Prelude.{◌≡◌, ℕ, ◌+◌, ◌<◌, ◌≤◌, ◌++◌, length, map, slice_get, Some, None, IfOk, OnOk, MatchOption, IfSome, All};
 ghost use Rattle.std.specs.List.{Contains, range_with_len};
+ghost use Rattle.file_model.specs.declared.limits.TheConstants.{MOST_NODES, MOST_PATCHES};
 ghost use Rattle.mesh_model.specs.declared.sides.Side.TheVariants.{Incoming, Outgoing};
 ghost use Rattle.mesh_graph.specs.Chains.{HaveNodes};
 ghost use Rattle.mesh_graph.specs.Adjacency.{IsAdjacency};
@@ -45,7 +46,7 @@ fn level_over(fields: &[PatchField], levels: &[Option<u32>], patches: &[u32]) ->
     requires patches { All (λ patch. patch < length fields.now) patches.now }
     requires ends { HaveNodes Outgoing (length levels.now) fields.now }
     requires levels { AreLevels fields.now levels.now }
-    requires count { length levels.now ≤ 65536 }
+    requires count { length levels.now ≤ MOST_NODES }
     ensures { MatchOption result ((patch : ℕ) × Contains patches.now patch × IsOpen fields.now levels.now patch) (IsLevelOver fields.now levels.now patches.now) }
 {
     let mut level = 0;
@@ -70,7 +71,7 @@ fn next_level(
     requires incoming { IsAdjacency Incoming fields.now (length levels.now) incoming.now }
     requires ends { HaveNodes Outgoing (length levels.now) fields.now }
     requires levels { AreLevels fields.now levels.now }
-    requires count { length levels.now ≤ 65536 }
+    requires count { length levels.now ≤ MOST_NODES }
     requires places { length places.old ≡ length levels.now }
     requires node { node < length levels.now }
     ensures { MatchOption result (slice_get levels.now node ≡ Some None → HasOpenParent fields.now levels.now node) (IsNextLevel fields.now levels.now node) }
@@ -121,8 +122,8 @@ pub fn levels_of(
     requires outgoing { IsAdjacency Outgoing fields.now (length incoming.now) outgoing.now }
     requires tails { HaveNodes Outgoing (length incoming.now) fields.now }
     requires heads { HaveNodes Incoming (length incoming.now) fields.now }
-    requires nodes { length incoming.now ≤ 65536 }
-    requires patches { length fields.now ≤ 65536 }
+    requires nodes { length incoming.now ≤ MOST_NODES }
+    requires patches { length fields.now ≤ MOST_PATCHES }
     ensures { IfOk result (λ levels. AreAllLevels fields.now (length incoming.now) levels.items) }
 {
     let nodes = incoming.node_count();
@@ -140,7 +141,7 @@ pub fn levels_of(
 
 /// The least node without a level.
 pub fn first_without(levels: &[Option<u32>]) -> Option<u32>
-    requires { length levels.now ≤ 65536 }
+    requires { length levels.now ≤ MOST_NODES }
     ensures none { result ≡ None → (v : ℕ) → slice_get levels.now v ≡ Some None → ⊥ }
     ensures least { IfSome result (IsLeastWithout levels.now) }
 {

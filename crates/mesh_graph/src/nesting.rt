@@ -1,6 +1,7 @@
 //! Errors and balls, nested along each patch.
 
 ghost use Rattle.std.specs.Prelude.{◌≡◌, ℕ, ◌<◌, ◌≤◌, List, length, slice_get, MatchOption};
+ghost use Rattle.file_model.specs.declared.limits.TheConstants.{MOST_PATCHES};
 ghost use Rattle.file_model.specs.declared.fields.PatchField.{PatchField};
 ghost use Rattle.grid_vertex.specs.Points.{IsNearGrid};
 ghost use Rattle.mesh_model.specs.Accepted.{nested_by, AllNested, IsLeastUnnested};
@@ -62,7 +63,7 @@ pub fn first_unnested(
     requires tails { HaveNodes Outgoing (length nodes.now) fields.now }
     requires heads { HaveNodes Incoming (length nodes.now) fields.now }
     requires near { AreNearGrid nodes.now }
-    requires count { length fields.now ≤ 65536 }
+    requires count { length fields.now ≤ MOST_PATCHES }
     ensures { (version : ℕ) → MatchOption result (AllNested (rule_of nesting) (index_of version nodes.now fields.now)) (IsLeastUnnested (rule_of nesting) (index_of version nodes.now fields.now)) }
 {
     for (patch, field) in fields.iter().enumerate() {

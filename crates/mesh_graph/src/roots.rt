@@ -1,6 +1,7 @@
 //! The root of a graph.
 
 ghost use Rattle.std.specs.Prelude.{◌≡◌, ◌≤◌, length};
+ghost use Rattle.file_model.specs.declared.limits.TheConstants.{MOST_NODES};
 ghost use Rattle.mesh_model.specs.Graph.{nodes_where, only_root};
 ghost use Rattle.mesh_graph.specs.Adjacency.{is_bare_at};
 
@@ -9,7 +10,7 @@ use mesh_model::DagFault;
 
 /// The one node without incoming patches, or the fault where there is none or are several.
 pub fn find_root(incoming: &Adjacency) -> Result<u32, DagFault>
-    requires { length incoming.now ≤ 65536 }
+    requires { length incoming.now ≤ MOST_NODES }
     ensures { result ≡ only_root (nodes_where (length incoming.now) (is_bare_at incoming.now)) }
 {
     let mut found = None;

@@ -1,6 +1,7 @@
 //! The first fault of a graph, or its root.
 
 ghost use Rattle.std.specs.Prelude.{◌≡◌, ℕ, ◌≤◌, length};
+ghost use Rattle.file_model.specs.declared.limits.TheConstants.{MOST_NODES, MOST_PATCHES};
 ghost use Rattle.mesh_model.specs.declared.sides.Side.TheVariants.{Incoming, Outgoing};
 ghost use Rattle.mesh_graph.specs.Chains.{HaveNodes};
 ghost use Rattle.mesh_graph.specs.Adjacency.{IsAdjacency};
@@ -29,8 +30,8 @@ pub fn verdict_of(
     requires tails { HaveNodes Outgoing (length nodes.now) fields.now }
     requires heads { HaveNodes Incoming (length nodes.now) fields.now }
     requires near { AreNearGrid nodes.now }
-    requires node_count { length nodes.now ≤ 65536 }
-    requires patch_count { length fields.now ≤ 65536 }
+    requires node_count { length nodes.now ≤ MOST_NODES }
+    requires patch_count { length fields.now ≤ MOST_PATCHES }
     ensures { (version : ℕ) → IsVerdict (index_of version nodes.now fields.now) result }
 {
     let root = match find_root(incoming) {

@@ -4,6 +4,7 @@ ghost use Rattle.std.specs.Prelude.{◌≡◌, ◌≤◌, ◌++◌, length, map,
 ghost use Rattle.std.specs.List.{flat_map, fold, list_all};
 ghost use Rattle.std.specs.Int.{int_min};
 ghost use Rattle.file_model.specs.Numbers.{number_text, signed_text};
+ghost use Rattle.file_model.specs.declared.limits.TheConstants.{MOST_IN_PATCH};
 ghost use Rattle.file_model.specs.Lists.{corners_of};
 ghost use Rattle.file_model.specs.Spelling.{point_text, corners_text, offset_text, origin_of, points_text, body_text};
 ghost use Rattle.file_model.specs.Rules.{is_near_origin, is_narrow};
@@ -183,8 +184,8 @@ pub(crate) fn body_bytes(
     points: &[Point],
     corners: &[[u16; 3]],
 ) -> Result<Vec<u8>, NoMemory>
-    requires points { length points.now ≤ 65535 }
-    requires corners { length corners.now ≤ 65535 }
+    requires points { length points.now ≤ MOST_IN_PATCH }
+    requires corners { length corners.now ≤ MOST_IN_PATCH }
     requires narrow { IsTrue (is_narrow version points.now) }
     ensures { IfOk result (λ bytes. bytes.items ≡ body_text version (lists_with points.now corners.now)) }
 {

@@ -1,9 +1,9 @@
 -- Texts that are written piece by piece.
-use Rattle.std.proofs.Common.{◌≡◌, ℕ, ◌+◌, ◌-◌, ◌<◌, List, [], ◌∷◌, ◌++◌, length, get_or, take, drop, map, All, Option, Result, Ok, Err, refl, sym, ap, subst, ◌∙◌}
+use Rattle.std.proofs.Common.{◌≡◌, ℕ, ◌+◌, ◌-◌, ◌<◌, ◌≤◌, List, [], ◌∷◌, ◌++◌, length, get_or, take, drop, map, All, Option, Result, Ok, Err, refl, sym, ap, subst, ◌∙◌}
 use Rattle.std.specs.Prelude.{IsErr}
 use Rattle.std.specs.List.{flat_map, AllByRecursion}
 use Rattle.std.proofs.Math.Seq.{take-add}
-use Rattle.std.proofs.lemmas.List.{take_rest, drop_more, take-append-drop}
+use Rattle.std.proofs.lemmas.List.{append_assoc, append-nil, take_all, take_more, take_rest, drop_more, take-append-drop}
 use Rattle.std.proofs.lemmas.List.Concat.{flat_map-append, flat_map-cons}
 use Rattle.std.proofs.lemmas.List.Elements.{recursion_from_All}
 use Rattle.file_model.specs.declared.fields.Node.{Node}
@@ -13,7 +13,7 @@ use Rattle.file_model.specs.Spelling.{node_text, field_text, header_text, index_
 use Rattle.file_model.specs.Lists.{SeenBody}
 use Rattle.view_outside.specs.Streams.{appended}
 use Rattle.patch_file.specs.Headers.{header_spelling}
-use Rattle.patch_file.specs.Written.{Wrote, WritesPart, WritesPart-more, WritesPart-after, appended-after}
+use Rattle.patch_file.specs.Written.{Wrote, WritesPart, Sent, Sends, Sent-then, Sent-part, Sends-part, appended-after}
 use Rattle.patch_file.specs.PartsState.{IsSpelledIn}
 
 -- n bytes more of a text of which i were written
@@ -27,13 +27,34 @@ flat_map-split : {X : Type 0} (text : X → List ℕ) (xs : List X) (i : ℕ) (d
 flat_map-split text xs i d lt =
     ap (flat_map text) (sym (take-append-drop i xs) ∙ ap (λ ys. take i xs ++ ys) (drop_more xs i d lt)) ∙ flat_map-append text (take i xs) (get_or xs i d ∷ drop (i + 1) xs) ∙ ap (λ t. flat_map text (take i xs) ++ t) (flat_map-cons text (get_or xs i d) (drop (i + 1) xs))
 
--- the writer failed in the text of an item
-pub item_part : {X : Type 0} (text : X → List ℕ) (xs : List X) (i : ℕ) (d : X) (before between after : Option (List ℕ)) (item : List ℕ) → i < length xs → item ≡ text (get_or xs i d) → between ≡ appended before (flat_map text (take i xs)) → WritesPart between after item → WritesPart before after (flat_map text xs)
-item_part text xs i d before between after item lt is wrote part =
+flat_map-one : {X : Type 0} (text : X → List ℕ) (x : X) → flat_map text (x ∷ []) ≡ text x
+flat_map-one text x = flat_map-cons text x [] ∙ append-nil (text x)
+
+-- the texts of items in a row and the next one's
+flat_map-next : {X : Type 0} (text : X → List ℕ) (xs : List X) (i : ℕ) (d : X) → i < length xs → flat_map text (take (i + 1) xs) ≡ flat_map text (take i xs) ++ text (get_or xs i d)
+flat_map-next text xs i d lt =
+    ap (flat_map text) (take_more xs i d lt) ∙ flat_map-append text (take i xs) (get_or xs i d ∷ []) ∙ ap (λ (t : List ℕ). flat_map text (take i xs) ++ t) (flat_map-one text (get_or xs i d))
+
+-- an item more was given to the batch
+pub item_sent : {X : Type 0} (text : X → List ℕ) (xs : List X) (i : ℕ) (d : X) (before between after : Option (List ℕ)) (held holds left item : List ℕ) → i < length xs → item ≡ text (get_or xs i d)
+    → Sent before between held holds (flat_map text (take i xs)) → Sent between after holds left item → Sent before after held left (flat_map text (take (i + 1) xs))
+item_sent text xs i d before between after held holds left item lt is sent more =
+    let whole : flat_map text (take i xs) ++ item ≡ flat_map text (take (i + 1) xs) = ap (λ (t : List ℕ). flat_map text (take i xs) ++ t) is ∙ sym (flat_map-next text xs i d lt) in
+    subst (Sent before after held left) whole (Sent-then before between after held holds left (flat_map text (take i xs)) item sent more)
+
+-- the sink failed in the text of an item
+pub item_part : {X : Type 0} (text : X → List ℕ) (xs : List X) (i : ℕ) (d : X) (before between after : Option (List ℕ)) (held holds item : List ℕ) → i < length xs → item ≡ text (get_or xs i d)
+    → Sent before between held holds (flat_map text (take i xs)) → WritesPart between after (holds ++ item) → WritesPart before after (held ++ flat_map text xs)
+item_part text xs i d before between after held holds item lt is sent part =
+    let front = flat_map text (take i xs) in
     let behind = flat_map text (drop (i + 1) xs) in
-    let own : WritesPart between after (text (get_or xs i d)) = subst (WritesPart between after) is part in
-    subst (WritesPart before after) (sym (flat_map-split text xs i d lt))
-    (WritesPart-after before between after (flat_map text (take i xs)) (text (get_or xs i d) ++ behind) wrote (WritesPart-more between after (text (get_or xs i d)) behind own))
+    let some : WritesPart before after (held ++ (front ++ item)) = Sent-part before between after held holds front item sent part in
+    let whole : (front ++ item) ++ behind ≡ flat_map text xs = append_assoc front item behind ∙ ap (λ (t : List ℕ). front ++ (t ++ behind)) is ∙ sym (flat_map-split text xs i d lt) in
+    subst (λ (t : List ℕ). WritesPart before after (held ++ t)) whole (Sends-part before after held (front ++ item) behind some)
+
+-- all items were given
+pub all_sent : {X : Type 0} (text : X → List ℕ) (xs : List X) (i : ℕ) (before after : Option (List ℕ)) (held holds : List ℕ) → length xs ≤ i → Sent before after held holds (flat_map text (take i xs)) → Sent before after held holds (flat_map text xs)
+all_sent text xs i before after held holds all sent = subst (λ (ys : List _). Sent before after held holds (flat_map text ys)) (take_all i xs all) sent
 
 -- ---- what a writer did
 
@@ -41,10 +62,21 @@ pub Wrote-failed : {T E : Type 0} (result : Result T E) (before after : Option (
 Wrote-failed (Ok x) before after text failed part = absurd cc
 Wrote-failed (Err e) before after text failed part = part
 
--- the last piece is written behind those before it
-pub Wrote-after : {T E : Type 0} (result : Result T E) (before between after : Option (List ℕ)) (front text : List ℕ) → between ≡ appended before front → Wrote result between after text → Wrote result before after (front ++ text)
-Wrote-after (Ok x) before between after front text wrote writes = appended-after before between after front text wrote writes
-Wrote-after (Err e) before between after front text wrote part = WritesPart-after before between after front text wrote part
+pub Sends-failed : {T E : Type 0} (result : Result T E) (before after : Option (List ℕ)) (held holds text : List ℕ) → IsErr result → WritesPart before after (held ++ text) → Sends result before after held holds text
+Sends-failed (Ok x) before after held holds text failed part = absurd cc
+Sends-failed (Err e) before after held holds text failed part = part
+
+-- a text is given behind another
+pub Sends-after : {T E : Type 0} (result : Result T E) (before between after : Option (List ℕ)) (held holds left front text : List ℕ) → Sent before between held holds front → Sends result between after holds left text → Sends result before after held left (front ++ text)
+Sends-after (Ok x) before between after held holds left front text sent more = Sent-then before between after held holds left front text sent more
+Sends-after (Err e) before between after held holds left front text sent part = Sent-part before between after held holds front text sent part
+
+-- the same text by another spelling
+pub Sent-same : (before after : Option (List ℕ)) (held holds front bytes text : List ℕ) → bytes ≡ text → Sent before after held holds (front ++ bytes) → Sent before after held holds (front ++ text)
+Sent-same before after held holds front bytes text same sent = subst (λ (t : List ℕ). Sent before after held holds (front ++ t)) same sent
+
+pub WritesPart-same : (before after : Option (List ℕ)) (front bytes text : List ℕ) → bytes ≡ text → WritesPart before after (front ++ bytes) → WritesPart before after (front ++ text)
+WritesPart-same before after front bytes text same part = subst (λ (t : List ℕ). WritesPart before after (front ++ t)) same part
 
 -- ---- bodies by their bytes
 

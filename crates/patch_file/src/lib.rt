@@ -4,6 +4,7 @@
 //! right gives.
 #![tactic(auto)]
 
+mod batches;
 mod header;
 mod index;
 mod parts;

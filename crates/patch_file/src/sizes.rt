@@ -2,6 +2,7 @@
 
 ghost use Rattle.std.specs.Prelude.{◌≡◌, ◌≤◌, ◌<◌, ◌+◌, ◌*◌, ◌^◌, length, IfOk};
 ghost use Rattle.file_model.specs.Lists.{body_size, bodies_size};
+ghost use Rattle.file_model.specs.declared.limits.TheConstants.{MOST_PATCHES};
 ghost use Rattle.patch_file.specs.Offsets.{HasOffsets};
 
 use file_model::PatchField;
@@ -30,7 +31,7 @@ pub fn offsets_of(
     start: u64,
     fields: &[PatchField],
 ) -> Result<(Vec<u64>, u64), NoMemory>
-    requires count { length fields.now ≤ 65536 }
+    requires count { length fields.now ≤ MOST_PATCHES }
     requires start { start ≤ 2 ^ 22 }
     ensures offsets { IfOk result (λ x. HasOffsets version start fields.now x.0.items) }
     ensures end { IfOk result (λ x. x.1 ≡ start + bodies_size version fields.now) }

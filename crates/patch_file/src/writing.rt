@@ -5,10 +5,10 @@ ghost use Rattle.std.specs.List.{flat_map};
 ghost use Rattle.file_model.specs.Spelling.{node_text, field_text, index_text, file_text};
 ghost use Rattle.file_model.specs.Rules.{IsIndex, IsPatchFile};
 ghost use Rattle.view_outside.specs.Faults.{Rose};
-ghost use Rattle.patch_file.specs.Written.{Wrote};
+ghost use Rattle.patch_file.specs.Written.{Wrote, Sends};
 
+use crate::batches::Batch;
 use crate::parts::FileParts;
-use crate::sending::write_all;
 use crate::spelling::{field_bytes, header_bytes, node_bytes};
 use file_model::{Node, PatchField, WriteFault};
 use patch_body::Body;
@@ -21,68 +21,74 @@ pub fn write_file<O: Sink>(parts: &FileParts, sink: &mut O) -> Result<(), WriteF
     ensures later { O.faults sink.old ≤ O.faults sink.new }
     ensures cause { OnErr result (Rose (O.faults sink.old) (O.faults sink.new)) }
 {
-    write_index(parts, sink)?;
-    write_bodies(&parts.bodies, sink)
+    let mut batch = Batch::new();
+    add_index(parts, &mut batch, sink)?;
+    add_bodies(&parts.bodies, &mut batch, sink)?;
+    batch.send(sink)
 }
 
-/// Writes what stands before the bodies.
-fn write_index<O: Sink>(parts: &FileParts, sink: &mut O) -> Result<(), WriteFault>
+/// What stands before the bodies.
+fn add_index<O: Sink>(parts: &FileParts, batch: &mut Batch, sink: &mut O) -> Result<(), WriteFault>
     requires { IsIndex parts.now.index }
-    ensures text { Wrote result (O.written sink.old) (O.written sink.new) (index_text parts.now.index) }
+    ensures text { Sends result (O.written sink.old) (O.written sink.new) batch.old batch.new (index_text parts.now.index) }
     ensures later { O.faults sink.old ≤ O.faults sink.new }
     ensures cause { OnErr result (Rose (O.faults sink.old) (O.faults sink.new)) }
 {
     let nodes = parts.nodes.as_slice();
     let fields = parts.fields.as_slice();
     let header = header_bytes(parts.version, nodes.len() as u32, fields.len() as u32);
-    write_all(&header, sink)?;
-    write_units(nodes, fields, sink)
+    batch.add(&header, sink)?;
+    add_units(nodes, fields, batch, sink)
 }
 
-/// Writes the nodes and then the fields.
-fn write_units<O: Sink>(
+/// The nodes and then the fields.
+fn add_units<O: Sink>(
     nodes: &[Node],
     fields: &[PatchField],
+    batch: &mut Batch,
     sink: &mut O,
 ) -> Result<(), WriteFault>
-    ensures text { Wrote result (O.written sink.old) (O.written sink.new)
-        (flat_map node_text nodes.now ++ flat_map field_text fields.now) }
+    ensures text { Sends result (O.written sink.old) (O.written sink.new) batch.old batch.new (flat_map node_text nodes.now ++ flat_map field_text fields.now) }
     ensures later { O.faults sink.old ≤ O.faults sink.new }
     ensures cause { OnErr result (Rose (O.faults sink.old) (O.faults sink.new)) }
 {
-    write_nodes(nodes, sink)?;
-    write_fields(fields, sink)
+    add_nodes(nodes, batch, sink)?;
+    add_fields(fields, batch, sink)
 }
 
-fn write_nodes<O: Sink>(nodes: &[Node], sink: &mut O) -> Result<(), WriteFault>
-    ensures text { Wrote result (O.written sink.old) (O.written sink.new) (flat_map node_text nodes.now) }
+fn add_nodes<O: Sink>(nodes: &[Node], batch: &mut Batch, sink: &mut O) -> Result<(), WriteFault>
+    ensures text { Sends result (O.written sink.old) (O.written sink.new) batch.old batch.new (flat_map node_text nodes.now) }
     ensures later { O.faults sink.old ≤ O.faults sink.new }
     ensures cause { OnErr result (Rose (O.faults sink.old) (O.faults sink.new)) }
 {
     for node in nodes {
-        write_all(&node_bytes(node), sink)?;
+        batch.add(&node_bytes(node), sink)?;
     }
     Ok(())
 }
 
-fn write_fields<O: Sink>(fields: &[PatchField], sink: &mut O) -> Result<(), WriteFault>
-    ensures text { Wrote result (O.written sink.old) (O.written sink.new) (flat_map field_text fields.now) }
+fn add_fields<O: Sink>(
+    fields: &[PatchField],
+    batch: &mut Batch,
+    sink: &mut O,
+) -> Result<(), WriteFault>
+    ensures text { Sends result (O.written sink.old) (O.written sink.new) batch.old batch.new (flat_map field_text fields.now) }
     ensures later { O.faults sink.old ≤ O.faults sink.new }
     ensures cause { OnErr result (Rose (O.faults sink.old) (O.faults sink.new)) }
 {
     for field in fields {
-        write_all(&field_bytes(field), sink)?;
+        batch.add(&field_bytes(field), sink)?;
     }
     Ok(())
 }
 
-fn write_bodies<O: Sink>(bodies: &[Body], sink: &mut O) -> Result<(), WriteFault>
-    ensures text { Wrote result (O.written sink.old) (O.written sink.new) (flat_map (λ body. body.bytes) bodies.now) }
+fn add_bodies<O: Sink>(bodies: &[Body], batch: &mut Batch, sink: &mut O) -> Result<(), WriteFault>
+    ensures text { Sends result (O.written sink.old) (O.written sink.new) batch.old batch.new (flat_map (λ body. body.bytes) bodies.now) }
     ensures later { O.faults sink.old ≤ O.faults sink.new }
     ensures cause { OnErr result (Rose (O.faults sink.old) (O.faults sink.new)) }
 {
     for body in bodies {
-        write_all(body.bytes(), sink)?;
+        batch.add(body.bytes(), sink)?;
     }
     Ok(())
 }

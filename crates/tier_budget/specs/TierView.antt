@@ -1,5 +1,5 @@
 -- What callers see of a tier, and what holds of it.
-use Rattle.std.specs.Prelude.{◌≡◌, ℕ, ◌-◌, ◌<◌, ◌≤◌, length, is_some, vec_len, vec_capacity}
+use Rattle.std.specs.Prelude.{◌≡◌, ℕ, ◌-◌, ◌<◌, ◌≤◌, is_some, vec_len, vec_capacity}
 use Rattle.std.specs.List.{count_by}
 use Rattle.tier_model.specs.declared.turns.Turn.{Turn}
 use Rattle.tier_model.specs.Places.{Needs}
@@ -40,14 +40,14 @@ state_of t = record {
 abbrev pub tier_view : Inside → TierSeen
 tier_view t = record { state = state_of t; spare = vec_capacity t.journal - vec_len t.journal }
 
--- the sums are kept, and there is room for all that may come
-pub record IsCounted (s : TierState) (bytes pinned held capacity : ℕ) : Type 0 where
+-- a tier, with its sums, and room for all that may come
+pub record IsSoundTier (s : TierState) (bytes pinned held capacity : ℕ) : Type 0 where
+  pub tier : IsTier s
   pub bytes_are : bytes ≡ load s
   pub pinned_are : pinned ≡ pinned_bytes s
   pub held_are : held ≡ held_count s
   pub room : 0 < count s → s.width ≤ capacity
   pub few : count s ≤ 65536
 
-pub record IsTierInside (t : Inside) : Type 0 where
-  pub tier : IsTier (state_of t)
-  pub counted : IsCounted (state_of t) t.load t.pinned_bytes t.held_count (vec_capacity t.coming)
+abbrev pub IsTierInside : Inside → Type 0
+IsTierInside t = IsSoundTier (state_of t) t.load t.pinned_bytes t.held_count (vec_capacity t.coming)

@@ -1,7 +1,7 @@
 //! The patches that come, in their order.
 
 ghost use Rattle.std.specs.Prelude.{◌≡◌, Some, vec_capacity};
-ghost use Rattle.tier_model.specs.Places.{is_coming, first_bare, with_body, without};
+ghost use Rattle.tier_model.specs.Places.{is_coming, first_coming, first_bare, with_body, without};
 
 use tier_model::Coming;
 
@@ -9,14 +9,31 @@ use tier_model::Coming;
 pub fn comes(coming: &[Coming], patch: u32) -> bool
     ensures { result ≡ is_coming coming.now patch }
 {
-    coming.iter().any(|one| one.patch == patch)
+    for one in coming {
+        if one.patch == patch {
+            return true;
+        }
+    }
+    false
+}
+
+/// The first patch that comes.
+pub fn first_patch(coming: &[Coming]) -> Option<u32>
+    ensures { result ≡ first_coming coming.now }
+{
+    coming.first().map(|one| one.patch)
 }
 
 /// The first patch that comes without a body.
 pub fn first_without_body(coming: &[Coming]) -> Option<u32>
     ensures { result ≡ first_bare coming.now }
 {
-    coming.iter().find(|one| !one.has_body).map(|one| one.patch)
+    for one in coming {
+        if !one.has_body {
+            return Some(one.patch);
+        }
+    }
+    None
 }
 
 /// The body of the patch is there.

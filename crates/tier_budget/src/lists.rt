@@ -37,7 +37,7 @@ pub fn base_patches(alloc: Global, index: &Index) -> Result<Vec<bool>, NoMemory>
     ensures { IfOk result (λ base. base.items ≡ base_marks index.now.fields) }
 {
     let has_parent = node_marks(alloc, index)?;
-    let mut base = Vec::new(alloc);
+    let mut base = Vec::with_capacity(alloc, index.patch_count() as usize)?;
     for field in index.fields() {
         base.push(!has_parent[field.tail as usize])?;
     }

@@ -221,3 +221,5 @@ impl MadeWith<Global> for Tier {
 
 mod changes;
 mod choices;
+#[cfg(test)]
+mod tests;

@@ -4,6 +4,7 @@ ghost use Rattle.std.specs.Prelude.{◌<◌, length};
 
 use super::*;
 use std::fs;
+use std::io::{self, ErrorKind, Read, Write};
 use std::test::Fail;
 
 fn find<S: Store>(store: &mut S, name: &str) -> Result<u32, Failed> {
@@ -90,6 +91,7 @@ fn a_sink_in_memory(rt: HostRuntime) -> Result<(), Fail> {
     assert_eq!(rt; write(&mut sink, b"def"), Ok(2));
     assert_eq!(rt; write(&mut sink, b"f"), Err(Failed), "the room is full");
     assert_eq!(rt; sink.bytes(), b"abcde".as_slice());
+    assert_eq!(rt; sink.into_bytes().as_slice(), b"abcde".as_slice());
     Ok(())
 }
 
@@ -141,4 +143,75 @@ fn a_sink_over_a_writer_with_no_room(rt: HostRuntime) {
     let mut sink = StdSink::new(room.as_mut_slice());
     assert_eq!(rt; write(&mut sink, b"abc"), Ok(2));
     assert_eq!(rt; write(&mut sink, b"c"), Err(Failed));
+}
+
+/// A device that the system interrupts so many times. A read gives one byte, and a write takes one.
+#[derive(Drop)]
+struct InterruptedDevice {
+    interruptions: u32,
+}
+
+impl InterruptedDevice {
+    fn call(&mut self) -> io::Result<()> {
+        if self.interruptions == 0 {
+            return Ok(());
+        }
+        self.interruptions -= 1;
+        Err(io::Error::from(ErrorKind::Interrupted))
+    }
+}
+
+impl Read for InterruptedDevice {
+    fn read(&mut self, buffer: &mut [u8]) -> io::Result<usize> {
+        self.call()?;
+        let Some(first) = buffer.first_mut() else {
+            return Ok(0);
+        };
+        *first = b'a';
+        Ok(1)
+    }
+}
+
+impl Write for InterruptedDevice {
+    fn write(&mut self, piece: &[u8]) -> io::Result<usize> {
+        self.call()?;
+        Ok(piece.len().min(1))
+    }
+
+    fn flush(&mut self) -> io::Result<()> {
+        Ok(())
+    }
+}
+
+#[test]
+fn an_interrupted_read_is_made_again(rt: HostRuntime) {
+    let mut buffer = [0; 4];
+    let mut source = StdSource::new(InterruptedDevice { interruptions: 16 });
+    assert_eq!(rt; read(&mut source, &mut buffer), Ok(1));
+    assert_eq!(rt; buffer, *b"a\0\0\0");
+    let mut source = StdSource::new(InterruptedDevice { interruptions: 17 });
+    assert_eq!(rt; read(&mut source, &mut buffer), Err(Failed));
+}
+
+#[test]
+fn an_interrupted_write_is_made_again(rt: HostRuntime) {
+    let mut sink = StdSink::new(InterruptedDevice { interruptions: 16 });
+    assert_eq!(rt; write(&mut sink, b"abc"), Ok(1));
+    let mut sink = StdSink::new(InterruptedDevice { interruptions: 17 });
+    assert_eq!(rt; write(&mut sink, b"abc"), Err(Failed));
+}
+
+#[test]
+fn gates_hold_for_so_many_turns(rt: HostRuntime) {
+    OpenGate.pass(GatePoint::LockTry(1));
+    let gate = HoldGate::new(GatePoint::LockTry(1), GatePoint::TierTurn(0), 3);
+    gate.pass(GatePoint::LockTry(2));
+    gate.pass(GatePoint::TierTurn(1));
+    assert_eq!(rt; gate.late(), false, "nobody was held");
+    gate.pass(GatePoint::TierTurn(0));
+    gate.pass(GatePoint::LockTry(1));
+    assert_eq!(rt; gate.late(), false, "the other place was passed");
+    let gate = HoldGate::new(GatePoint::FrameDone(1), GatePoint::FrameDone(2), 3);
+    gate.pass(GatePoint::FrameDone(1));
+    assert_eq!(rt; gate.late(), true, "the turns ran out");
 }

@@ -10,7 +10,7 @@ ghost use Rattle.tier_budget.specs.TierView.{Allows};
 
 use super::Tier;
 use crate::aside::{entry_of, put_aside};
-use crate::coming::{first_without_body, give_body, take_out};
+use crate::coming::{first_patch, first_without_body, give_body, take_out};
 use crate::marks::unmark_all;
 use crate::wishes::{Wishes, copy_wishes};
 use patch_file::Body;
@@ -82,7 +82,10 @@ impl Tier {
         ensures kept { IsTier self.new.state }
         ensures spare { self.new.spare + 1 ≡ self.old.spare }
     {
-        let patch = self.coming[0].patch;
+        let patch = match first_patch(&self.coming) {
+            Some(patch) => patch,
+            None => unreachable!(),
+        };
         let body = self.came[patch as usize].take();
         self.held[patch as usize] = body;
         self.held_count += 1;

@@ -16,7 +16,7 @@ pub returns-in_err-bodies-clause-told : goal.returns-in_err-bodies-clause-told
 returns-in_err-bodies-clause-told g c =
     let p = err_from_is_err_and c.from_residual.result c.from_residual.ensures.1 in
     let mesh = c.args.mesh.now in
-    rw (p.1, p.2) (refused_load _ c.in_err-bodies.field-0.0 (λ file. IsBaseText file mesh.lists.root) mesh.lists.index (λ file. IsMeshOf file mesh) (λ file is. is.index) (rw c.index.ensures.value at c.in_err-bodies.ensures.told))
+    rw (p.1, p.2) (refused_load _ c.in_err-bodies.field-0.0 (λ file. IsBaseText file mesh.lists.root) mesh.lists.index _ (λ file. IsMeshOf file mesh) (λ file is. is.index) (rw c.index.ensures.value at c.in_err-bodies.ensures.told))
 
 pub frame_text-requires-clause-count : goal.frame_text-requires-clause-count
 frame_text-requires-clause-count g c = rw c.base-2.ensures (chosen_within (leads_from c.args.mesh.now.lists.root) c.args.mesh.now.lists.index c.root.ensures.facts.rules)

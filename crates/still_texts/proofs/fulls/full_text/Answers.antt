@@ -16,7 +16,7 @@ pub returns-in_err-bodies-clause-told : goal.returns-in_err-bodies-clause-told
 returns-in_err-bodies-clause-told g c =
     let p = err_from_is_err_and c.from_residual-in_err-bodies.result c.from_residual-in_err-bodies.ensures.1 in
     let mesh = c.args.mesh.now in
-    rw (p.1, p.2) (refused_load _ c.in_err-bodies.field-0.0 (λ file. IsFullText c.args.view.now file mesh.lists.root) mesh.lists.index (λ file. IsMeshOf file mesh) (λ file is. is.index) (rw c.index.ensures.value at c.in_err-bodies.ensures.told))
+    rw (p.1, p.2) (refused_load _ c.in_err-bodies.field-0.0 (λ file. IsFullText c.args.view.now file mesh.lists.root) mesh.lists.index _ (λ file. IsMeshOf file mesh) (λ file is. is.index) (rw c.index.ensures.value at c.in_err-bodies.ensures.told))
 
 pub returns-clause-told : goal.returns-clause-told
 returns-clause-told g c =

@@ -1,6 +1,5 @@
 -- The heads of the patches before this one are marked.
-use Rattle.std.proofs.Common.{◌≡◌, take}
-use Rattle.file_model.specs.Lists.{IndexLists}
+use Rattle.std.proofs.Common.{take}
 use Rattle.tier_budget.specs.Heads.{AreHeads}
 use Rattle.tier_budget.proofs.lists.node_marks.Given as goal
 

@@ -1,0 +1,40 @@
+-- The body is held and pinned.
+use Rattle.std.proofs.Common.{◌≡◌, ◌+◌, length, ap, ◌∙◌, refl, arith, true, Some}
+use Rattle.std.specs.Prelude.{slice_set}
+use Rattle.file_model.specs.Lists.{SeenBody}
+use Rattle.tier_model.specs.Changes.{with_pin}
+use Rattle.tier_budget.specs.Heads.{bodies_in}
+use Rattle.tier_budget.specs.TierView.{TierSeen, state_of, tier_view}
+use Rattle.tier_budget.proofs.Equations.{with_pin_is}
+use Rattle.tier_budget.proofs.Writes.{body_written}
+use Rattle.tier_budget.proofs.SoundLaws.{sound_of_view, sound_moved, sound-with_pin, pinned_within}
+use Rattle.tier_budget.proofs.tiers.Tier.pin.Goals as goal
+
+pub overflow_add-self-3 : goal.overflow_add-self-3
+overflow_add-self-3 c =
+    let sound = sound_of_view (tier_view c.self.inside) c.args.self.now c.self.inside.load c.self.inside.pinned_bytes c.self.inside.held_count c.self.inside.coming.cap c.self.view_is c.self.invariant in
+    let same = pinned_within c.args.self.now.state _ _ _ _ sound c.requires.begins in
+    let bytes = sound.bytes_are in
+    let room = c.requires.room in
+    let budget = ap (λ (v : TierSeen). v.state.budget) c.self.view_is in
+    let size : c.size-size.result ≡ length c.args.body.value.bytes = c.size-size.ensures.size ∙ ap (λ (b : SeenBody). length b.bytes) c.deref-2.ensures in
+    omega arith
+
+pub returns-clause-state : goal.returns-clause-state
+returns-clause-state c =
+    let patch : c.patch-patch.result ≡ c.args.body.value.patch = c.patch-patch.ensures.patch ∙ ap (λ (b : SeenBody). b.patch) c.deref.ensures in
+    with_pin_is (state_of c.self.inside) c.args.body.value _ _ (ap (λ p. slice_set c.self.inside.pinned.items p true) patch)
+    (body_written c.self.inside.held.items c.patch-patch.result (Some c.args.body) ∙ ap (λ p. slice_set (bodies_in c.self.inside.held.items) p (Some c.args.body.value)) patch)
+    ∙ ap (λ (v : TierSeen). with_pin v.state c.args.body.value) c.self.view_is
+
+pub invariant_of-self : goal.invariant_of-self
+invariant_of-self c =
+    let old = c.args.self.now.state in
+    let sound = sound_of_view (tier_view c.self.inside) c.args.self.now c.self.inside.load c.self.inside.pinned_bytes c.self.inside.held_count c.self.inside.coming.cap c.self.view_is c.self.invariant in
+    let size : c.size-size.result ≡ length c.args.body.value.bytes = c.size-size.ensures.size ∙ ap (λ (b : SeenBody). length b.bytes) c.deref-2.ensures in
+    sound_moved (with_pin old c.args.body.value) _ (c.self.inside.load + length c.args.body.value.bytes) (c.self.inside.pinned_bytes + length c.args.body.value.bytes) _ _ _ _ _ _ (returns-clause-state c)
+    (ap (λ n. c.self.inside.load + n) size) (ap (λ n. c.self.inside.pinned_bytes + n) size) refl refl
+    (sound-with_pin old c.args.body.value _ _ _ _ sound c.requires.begins c.requires.away c.requires.body c.requires.room)
+
+pub returns-clause-kept : goal.returns-clause-kept
+returns-clause-kept c = (invariant_of-self c).tier
