@@ -7,9 +7,11 @@ use Rattle.file_model.specs.declared.refusals.ReadRefusal.TheVariants as reads
 use Rattle.file_model.specs.Answers.{Refuses}
 use Rattle.file_model.specs.Lists.{BodyLists, IndexLists}
 use Rattle.file_model.specs.Reading.{index_in, end_in, file_in}
+use Rattle.file_laws.specs.Files.{file_text-in}
 use Rattle.mesh_model.specs.declared.refusals.DagFault.{DagFault}
 use Rattle.mesh_model.specs.declared.refusals.Refusal.TheVariants.{Dag}
 use Rattle.mesh_model.specs.Accepted.{IsMeshFault}
+use Rattle.view_outside.specs.Files.{AreBytes}
 use Rattle.dag_check.specs.declared.refusals.CheckRefusal.TheVariants.{Refused}
 use Rattle.dag_check.specs.Added.{file_with}
 use Rattle.dag_check.specs.Checkers.{CheckerSeen, Follows}
@@ -74,7 +76,9 @@ check-faulty None checker fault read verdict = tt
 check-faulty (Some bytes) checker fault read verdict = (file_with checker.index read.0, read.1, verdict read.0 read.2)
 
 -- the check gives the file's mesh
-pub check-accepted : (told : Option (List ℕ)) (checker : CheckerSeen) (mesh : MeshSeen) → IfSome told (λ bytes. FollowsFile (Ok checker) (file_in bytes))
+pub check-accepted : (told : Option (List ℕ)) (checker : CheckerSeen) (mesh : MeshSeen) → IfSome told AreBytes → IfSome told (λ bytes. FollowsFile (Ok checker) (file_in bytes))
     → ((bodies : List BodyLists) → Follows checker bodies → IsMeshOf (file_with checker.index bodies) mesh) → IfSome told (λ bytes. Checks bytes (Ok mesh))
-check-accepted None checker mesh read verdict = tt
-check-accepted (Some bytes) checker mesh read verdict = (file_with checker.index read.0, read.1, verdict read.0 read.2)
+check-accepted None checker mesh are read verdict = tt
+check-accepted (Some bytes) checker mesh are read verdict =
+    let file = file_with checker.index read.0 in
+    (file, read.1, verdict read.0 read.2, file_text-in file bytes are read.1)

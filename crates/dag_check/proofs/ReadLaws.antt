@@ -10,7 +10,7 @@ use Rattle.file_model.specs.declared.refusals.ReadRefusal.TheVariants as reads
 use Rattle.file_model.specs.Answers.{Refuses}
 use Rattle.file_model.specs.Lists.{BodyLists, IndexLists, body_size, bodies_size, bodies_offset}
 use Rattle.file_model.specs.Reading.{◌>>=◌, body_of_file, bodies_in, body_offset}
-use Rattle.view_outside.specs.Taken.{taken_after}
+use Rattle.view_outside.specs.Taken.{taken_after, RisesBelow, RisesAtMost, taken_after-taken_after}
 use Rattle.dag_check.specs.Checkers.{CheckerSeen, Follows}
 use Rattle.dag_check.specs.Checks.{bodies_behind, FollowsBodies}
 
@@ -151,3 +151,23 @@ taken-more index patch before between now size lt sized so_far takes =
     let field = field_at index.fields patch lt in
     let is : size ≡ body_size index.version field.0 = rw field.1 at sized in
     omega (arith, is, so_far, takes, bodies_size-more index.version index.fields patch field.0 field.1)
+
+-- the bodies up to a patch and its own are no more than all
+bodies_size-upto : (version : ℕ) (fs : List PatchField) (i : ℕ) (f : PatchField) → slice_get fs i ≡ Some f → bodies_size version (take i fs) + body_size version f ≤ bodies_size version fs
+unfolding bodies_size
+bodies_size-upto version [] i f is = absurd cc
+bodies_size-upto version (g ∷ gs) zero f is = let same : g ≡ f = cc in rw same (omega arith)
+bodies_size-upto version (g ∷ gs) (suc i) f is = omega (arith, bodies_size-upto version gs i f is)
+
+-- the store failed in a body
+pub taken-cut : (index : IndexLists) (patch before between now : ℕ) → patch < length index.fields → HasTaken index patch before between
+    → IfSome (slice_get index.fields patch) (λ field. RisesBelow between now (body_size index.version field)) → RisesAtMost before now (bodies_size index.version index.fields)
+taken-cut index patch before between now lt so_far cut =
+    let field = field_at index.fields patch lt in
+    let rises : RisesBelow between now (body_size index.version field.0) = rw field.1 at cut in
+    let front = bodies_size index.version (take patch index.fields) in
+    record {
+      bytes = front + rises.bytes;
+      below = omega (arith, rises.below, bodies_size-upto index.version index.fields patch field.0 field.1);
+      sum = rises.sum ∙ ap (λ (t : ℕ). taken_after t rises.bytes) so_far ∙ taken_after-taken_after before front rises.bytes;
+    }

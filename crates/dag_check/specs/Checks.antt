@@ -5,6 +5,7 @@ use Rattle.file_model.specs.declared.refusals.ReadRefusal.{ReadRefusal}
 use Rattle.file_model.specs.Answers.{Refuses}
 use Rattle.file_model.specs.Lists.{BodyLists, IndexLists, FileLists, bodies_offset}
 use Rattle.file_model.specs.Reading.{bodies_in, file_in}
+use Rattle.file_model.specs.Rules.{IsPatchFile}
 use Rattle.mesh_model.specs.declared.refusals.Refusal.TheVariants.{File, Dag}
 use Rattle.mesh_model.specs.Accepted.{IsMeshFault}
 use Rattle.accepted_mesh.specs.MeshView.{MeshSeen, IsMeshOf}
@@ -27,9 +28,9 @@ abbrev pub FollowsFile : Result CheckerSeen ReadRefusal → Result FileLists Fil
 FollowsFile (Ok checker) read = (bodies : List BodyLists) × (read ≡ Ok (file_with checker.index bodies)) × Follows checker bodies
 FollowsFile (Err refusal) read = Refuses refusal read
 
--- what a check answers for a file of these bytes
+-- what a check answers for a file of these bytes: where it gives a mesh, they are the patch file that it is of
 abbrev pub Checks : List ℕ → Result MeshSeen CheckRefusal → Type 0
-Checks bytes (Ok mesh) = (file : FileLists) × (file_in bytes ≡ Ok file) × IsMeshOf file mesh
+Checks bytes (Ok mesh) = (file : FileLists) × (file_in bytes ≡ Ok file) × IsMeshOf file mesh × IsPatchFile file bytes
 Checks bytes (Err (Refused (File fault))) = file_in bytes ≡ Err fault
 Checks bytes (Err (Refused (Dag fault))) = (file : FileLists) × (file_in bytes ≡ Ok file) × IsMeshFault file fault
 Checks bytes (Err ReadFault) = Unit {0}

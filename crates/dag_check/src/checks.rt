@@ -1,13 +1,13 @@
 //! Checking a patch file from its store.
 
-ghost use Rattle.std.specs.Prelude.{◌≡◌, length, Ok, IfOk, IfSome};
+ghost use Rattle.std.specs.Prelude.{◌≡◌, length, Ok, IfOk, IfErr, IfSome};
 ghost use Rattle.file_model.specs.declared.refusals.ReadRefusal.TheVariants as reads;
 ghost use Rattle.file_model.specs.Lists.{bodies_size};
 ghost use Rattle.file_model.specs.Reading.{index_in, file_in};
 ghost use Rattle.mesh_model.specs.Meshes.{IsMesh};
-ghost use Rattle.view_outside.specs.Files.{HasFile, file_bytes};
-ghost use Rattle.view_outside.specs.OnlyRead.{OnlyRead};
-ghost use Rattle.view_outside.specs.Taken.{taken_after};
+ghost use Rattle.view_outside.specs.Files.{HasFile, TellsBytes, file_bytes};
+ghost use Rattle.view_outside.specs.OnlyRead.{OnlyIf, OnlyRead};
+ghost use Rattle.view_outside.specs.Taken.{taken_after, RisesAtMost};
 ghost use Rattle.dag_check.specs.Checks.{bodies_behind, FollowsBodies, FollowsFile, Checks};
 ghost use Rattle.dag_check.specs.declared.refusals.CheckRefusal.TheVariants as checks;
 
@@ -35,6 +35,8 @@ fn read_bodies<S: Store>(
         (S.faults store.old) (S.faults store.new) result }
     ensures taken { IfOk result (λ _. S.taken store.new
         ≡ taken_after (S.taken store.old) (bodies_size index.version index.fields)) }
+    ensures cut { IfErr result (OnlyIf reads.ReadFault (RisesAtMost (S.taken store.old) (S.taken store.new)
+        (bodies_size index.version index.fields))) }
 {
     let patches = index.patch_count();
     let mut checker = Checker::begin(alloc, index)?;
@@ -55,6 +57,7 @@ fn read_rest<S: Store>(
     requires file { HasFile (S.files store.old) file }
     requires told { IfSome (file_bytes (S.files store.old) file) (λ bytes. index_in bytes ≡ Ok index) }
     ensures told { IfSome (file_bytes (S.files store.old) file) (λ bytes. FollowsFile result (file_in bytes)) }
+    ensures bytes { IfOk result (λ _. TellsBytes (S.files store.old) file) }
     ensures index { IfOk result (λ checker. checker.index ≡ index) }
     ensures all { IfOk result (λ checker. checker.next ≡ length index.fields) }
 
@@ -62,6 +65,8 @@ fn read_rest<S: Store>(
         (S.faults store.old) (S.faults store.new) result }
     ensures taken { IfOk result (λ _. S.taken store.new
         ≡ taken_after (S.taken store.old) (bodies_size index.version index.fields)) }
+    ensures cut { IfErr result (OnlyIf reads.ReadFault (RisesAtMost (S.taken store.old) (S.taken store.new)
+        (bodies_size index.version index.fields))) }
 {
     let checker = read_bodies(alloc, index, store, file)?;
     match read_end(checker.index(), store, file) {
@@ -90,6 +95,8 @@ pub fn check<S: Store>(
         (S.faults store.old) (S.faults store.new) result }
     ensures taken { IfOk result (λ _. S.taken store.new
         ≡ taken_after (S.taken store.old) (bodies_size index.version index.fields)) }
+    ensures cut { IfErr result (OnlyIf checks.ReadFault (RisesAtMost (S.taken store.old) (S.taken store.new)
+        (bodies_size index.version index.fields))) }
 {
     let checker = read_rest(alloc, index, store, file)?;
     Ok(checker.finish()?)

@@ -1,24 +1,20 @@
 -- A patch file that is read is spelled so and keeps its rules, and a patch file that is spelled is read.
-use Rattle.std.proofs.Common.{◌≡◌, ℕ, ◌+◌, ◌≤◌, ◌&&◌, leb, ltb, List, [], ◌∷◌, ◌++◌, length, take, drop, Ok, refl, sym, ap, subst, ◌∙◌, append_assoc, arith}
+use Rattle.std.proofs.Common.{◌≡◌, ℕ, ◌+◌, ◌≤◌, ◌&&◌, leb, List, [], ◌∷◌, ◌++◌, length, take, drop, Ok, refl, sym, ap, subst, ◌∙◌, append_assoc, arith}
 use Rattle.std.specs.Prelude.{IsTrue}
 use Rattle.std.specs.List.{flat_map, list_all}
-use Rattle.std.proofs.lemmas.Bool.{and_parts, and_from, false≢true, leb-true, ltb-true, le-leb}
+use Rattle.std.proofs.lemmas.Bool.{and_parts, and_from, false≢true, leb-true, le-leb}
 use Rattle.std.proofs.lemmas.List.{append-nil, drop_at, drop-drop, length-append, length-take, take_at, take-append-drop}
 use Rattle.file_model.specs.declared.fields.PatchField.{PatchField}
 use Rattle.file_model.specs.declared.faults.FileFault.TheVariants.{Trailing}
 use Rattle.file_model.specs.Lists.{BodyLists, IndexLists, FileLists, body_size, bodies_size, bodies_offset}
 use Rattle.file_model.specs.Spelling.{body_text, index_text, file_text}
 use Rattle.file_model.specs.Reading.{◌>>=◌, index_in, body_in, body_of_file, bodies_in, file_size, end_in, file_in}
-use Rattle.file_model.specs.Rules.{is_body, fits_field, has_ends, has_counts, is_field, are_bodies, IsPatchFile}
+use Rattle.file_model.specs.Rules.{is_between, is_body, fits_field, has_ends, has_counts, is_field, are_bodies, IsPatchFile}
 use Rattle.file_laws.specs.Numbers.{IsBytes, IsBytes-drop, IsBytes-take}
 use Rattle.file_laws.specs.Units.{both}
-use Rattle.file_laws.specs.Steps.{step_ok, last_ok, ok_is, front_is_all, all_weaken, all_both}
+use Rattle.file_laws.specs.Steps.{step_ok, last_ok, ok_is, front_is_all, all_weaken}
 use Rattle.file_laws.specs.Bodies.{length-body_text, body_text-in, body_in-text}
-use Rattle.file_laws.specs.Indexes.{has_small_counts, length-index_text, index_text-in, index_in-text}
-
--- each number fits its type, as in every value of the program; the rules bound all numbers but these
-pub record FitsTypes (file : FileLists) : Type 0 where
-  pub counts : IsTrue (list_all has_small_counts file.index.fields)
+use Rattle.file_laws.specs.Indexes.{between_most, length-index_text, index_text-in, index_in-text}
 
 -- ---- bodies one after the other
 
@@ -74,7 +70,7 @@ bodies_text-in version patch offset (f ∷ fs) bytes bs fits e =
       rules = are_bodies-from version f fs a.0 b.0 (record { fits = first.fits; body = first.rules; others = others.rules });
     })
 
-pub bodies_in-text : (version patch offset : ℕ) (fs : List PatchField) (bytes rest : List ℕ) (bs : List BodyLists) → IsTrue (list_all (λ (f : PatchField). has_counts f && has_small_counts f) fs) → IsTrue (are_bodies version fs bs)
+pub bodies_in-text : (version patch offset : ℕ) (fs : List PatchField) (bytes rest : List ℕ) (bs : List BodyLists) → IsTrue (list_all has_counts fs) → IsTrue (are_bodies version fs bs)
     → drop offset bytes ≡ flat_map (body_text version) bs ++ rest → bodies_in version patch offset fs bytes ≡ Ok bs
 unfolding bodies_in are_bodies
 bodies_in-text version patch offset [] bytes rest [] counts h e = refl
@@ -83,10 +79,10 @@ bodies_in-text version patch offset (f ∷ fs) bytes rest [] counts h e = absurd
 bodies_in-text version patch offset (f ∷ fs) bytes rest (b ∷ bs) counts h e =
     let size = body_size version f in
     let parts = are_bodies-parts version f fs b bs h in
-    let each = and_parts (has_counts f && has_small_counts f) (list_all (λ (g : PatchField). has_counts g && has_small_counts g) fs) counts in
-    let own = and_parts (has_counts f) (has_small_counts f) each.0 in
-    let some_point : 1 ≤ f.points = leb-true 1 f.points (and_parts (leb 1 f.points) (leb 1 f.triangles) own.0).0 in
-    let few = ltb-true f.points 65536 (and_parts (ltb f.points 65536) (ltb f.triangles 65536) own.1).0 in
+    let each = and_parts (has_counts f) (list_all has_counts fs) counts in
+    let own = (and_parts (is_between 1 65535 f.points) (is_between 1 65535 f.triangles) each.0).0 in
+    let some_point : 1 ≤ f.points = leb-true 1 f.points (and_parts (leb 1 f.points) (leb f.points 65535) own).0 in
+    let few = between_most 1 65535 f.points own in
     let behind : List ℕ = flat_map (body_text version) bs ++ rest in
     let here : drop offset bytes ≡ body_text version b ++ behind = e ∙ append_assoc (body_text version b) (flat_map (body_text version) bs) rest in
     let len = length-body_text version f b parts.fits in
@@ -116,7 +112,7 @@ joined : (bytes front behind rest : List ℕ) (n : ℕ) → bytes ≡ front ++ d
 joined bytes front behind rest n p q = p ∙ ap (λ (t : List ℕ). front ++ t) q ∙ sym (append_assoc front behind rest)
 
 -- found: a file that is read is spelled so, and is one
-pub file_text-in : (file : FileLists) (bytes : List ℕ) → IsBytes bytes → file_in bytes ≡ Ok file → IsPatchFile file bytes × FitsTypes file
+pub file_text-in : (file : FileLists) (bytes : List ℕ) → IsBytes bytes → file_in bytes ≡ Ok file → IsPatchFile file bytes
 unfolding file_in file_text
 file_text-in file bytes fits e =
     let a = step_ok (index_in bytes) (λ index. bodies_in index.version 0 (bodies_offset index) index.fields bytes >>= λ bodies. end_in index bytes >>= λ _. Ok (record { index = index; bodies = bodies })) file e in
@@ -130,24 +126,24 @@ file_text-in file bytes fits e =
     let rest : List ℕ = drop (offset + bodies_size index.version index.fields) bytes in
     let whole : bytes ≡ file_text made ++ rest = joined bytes (index_text index) (flat_map (body_text index.version) b.0) rest offset front.text behind.text in
     let text = front_is_all bytes (file_text made) rest whole (omega (arith, end_ok index bytes c.0 c.1, length-file_text made behind.rules)) in
-    subst (λ (y : FileLists). IsPatchFile y bytes × FitsTypes y) (ok_is made file c.2) (record { index = front.rules; bodies = behind.rules; text = text }, record { counts = front.small })
+    subst (λ (y : FileLists). IsPatchFile y bytes) (ok_is made file c.2) (record { index = front.rules; bodies = behind.rules; text = text })
 
 -- again: a file that is spelled is read
-pub file_in-text : (file : FileLists) (bytes : List ℕ) → IsPatchFile file bytes → FitsTypes file → file_in bytes ≡ Ok file
+pub file_in-text : (file : FileLists) (bytes : List ℕ) → IsPatchFile file bytes → file_in bytes ≡ Ok file
 unfolding file_in file_text
-file_in-text file bytes is fits =
+file_in-text file bytes is =
     let index = file.index in
     let bodies = flat_map (body_text index.version) file.bodies in
-    let front : index_in bytes ≡ Ok index = ap index_in is.text ∙ index_in-text index bodies is.index fits.counts in
+    let front : index_in bytes ≡ Ok index = ap index_in is.text ∙ index_in-text index bodies is.index in
     let placed : drop (bodies_offset index) bytes ≡ bodies ++ [] = ap (drop (bodies_offset index)) is.text ∙ drop_at (index_text index) bodies (bodies_offset index) (length-index_text index) ∙ sym (append-nil bodies) in
     let has = all_weaken (is_field (length index.nodes)) has_counts (λ f h. (and_parts (has_ends (length index.nodes) f) (has_counts f) h).1) index.fields is.index.fields in
-    let behind : bodies_in index.version 0 (bodies_offset index) index.fields bytes ≡ Ok file.bodies = bodies_in-text index.version 0 (bodies_offset index) index.fields bytes [] file.bodies (all_both has_counts has_small_counts index.fields has fits.counts) is.bodies placed in
+    let behind : bodies_in index.version 0 (bodies_offset index) index.fields bytes ≡ Ok file.bodies = bodies_in-text index.version 0 (bodies_offset index) index.fields bytes [] file.bodies has is.bodies placed in
     let end : end_in index bytes ≡ Ok tt = end_again index bytes (omega (arith, ap length is.text, length-file_text file is.bodies)) in
     rw (front, behind, end) refl
 
 -- one file for a string
-pub same_file : (one other : FileLists) (bytes : List ℕ) → IsPatchFile one bytes → FitsTypes one → IsPatchFile other bytes → FitsTypes other → one ≡ other
-same_file one other bytes p p_fits q q_fits = ok_is one other (sym (file_in-text one bytes p p_fits) ∙ file_in-text other bytes q q_fits)
+pub same_file : (one other : FileLists) (bytes : List ℕ) → IsPatchFile one bytes → IsPatchFile other bytes → one ≡ other
+same_file one other bytes p q = ok_is one other (sym (file_in-text one bytes p) ∙ file_in-text other bytes q)
 
 -- one string for a file
 pub same_string : (file : FileLists) (xs ys : List ℕ) → IsPatchFile file xs → IsPatchFile file ys → xs ≡ ys

@@ -1,9 +1,9 @@
 -- What stands before the bodies: what is read is spelled so, and what is spelled so is read.
 use Rattle.std.proofs.Common.{◌≡◌, ℕ, ◌+◌, ◌^◌, ◌<◌, ◌≤◌, Bool, false, ◌&&◌, eqb, leb, ltb, List, [], ◌++◌, length, take, drop, Ok, refl, sym, ap, subst, ◌∙◌, append_assoc, arith, inl, inr}
-use Rattle.std.specs.Prelude.{IsTrue, nat_eq, nat_lt, ◌==◌}
+use Rattle.std.specs.Prelude.{IsTrue, nat_eq, ◌==◌}
 use Rattle.std.specs.List.{flat_map, list_all, starts_with}
 use Rattle.std.specs.Cmp.Lexicographic.{bytes_decides}
-use Rattle.std.proofs.lemmas.Bool.{and_parts, and_from, or_cases, ltb-false, ltb-true, lt-ltb, le-ltb, leb-true, eqb-true}
+use Rattle.std.proofs.lemmas.Bool.{and_parts, and_from, or_cases, ltb-false, ltb-true, le-ltb, leb-true, eqb-true}
 use Rattle.std.proofs.lemmas.List.{append-nil, drop_at, drop-drop, length-append, length-drop, length-take, take_at, take-append-drop, take-take}
 use Rattle.file_model.specs.declared.fields.Node.{Node}
 use Rattle.file_model.specs.declared.fields.PatchField.{PatchField}
@@ -14,8 +14,8 @@ use Rattle.file_model.specs.Spelling.{magic, node_text, field_text, header_text,
 use Rattle.file_model.specs.Reading.{◌>>=◌, many_at, node_in, field_in, Header, header_in, node_at, field_at, fields_size, fields_in, index_in}
 use Rattle.file_model.specs.Rules.{is_version, is_between, is_node_count, is_patch_count, is_node, has_ends, has_counts, is_field, IsIndex}
 use Rattle.file_laws.specs.Numbers.{IsBytes, IsBytes-drop, IsBytes-take, length-number_text, number_in-text, number_text-in}
-use Rattle.file_laws.specs.Units.{both, take_both, drop_past, length-each, length-node_text, node_in-text, node_text-in, FitsField, length-field_text, field_in-text, field_text-in, field_in-fits}
-use Rattle.file_laws.specs.Steps.{step_ok, test_ok, rule_ok, ok_is, done, Takes, Takes-then, Takes-front, front_is_all, all_both, all_left, all_right, UnitTakes, UnitAgain, many_take, many_again}
+use Rattle.file_laws.specs.Units.{both, take_both, drop_past, length-each, length-node_text, node_in-text, node_text-in, FitsField, length-field_text, field_in-text, field_text-in}
+use Rattle.file_laws.specs.Steps.{step_ok, test_ok, rule_ok, ok_is, done, Takes, Takes-then, Takes-front, front_is_all, UnitTakes, UnitAgain, many_take, many_again}
 
 -- ---- nodes and fields
 
@@ -35,27 +35,23 @@ node_again end v n rest h =
     let back = node_in-text n rest h in
     rw (long, ap is_node back ∙ h, back, drop_at (node_text n) rest 20 (length-node_text n)) refl
 
--- the numbers of points and triangles fit two bytes
-abbrev pub has_small_counts : PatchField → Bool
-has_small_counts f = nat_lt f.points 65536 && nat_lt f.triangles 65536
+-- a number in a range is at most its last
+pub between_most : (low high n : ℕ) → IsTrue (is_between low high n) → n ≤ high
+between_most low high n h = leb-true n high (and_parts (leb low n) (leb n high) h).1
 
--- the field may stand in a file of so many nodes
-abbrev pub is_file_field : ℕ → PatchField → Bool
-is_file_field nodes f = is_field nodes f && has_small_counts f
-
-FitsField-from : (nodes : ℕ) (f : PatchField) → nodes ≤ 65536 → IsTrue (is_file_field nodes f) → FitsField f
+FitsField-from : (nodes : ℕ) (f : PatchField) → nodes ≤ 65536 → IsTrue (is_field nodes f) → FitsField f
 FitsField-from nodes f few h =
-    let parts = and_parts (is_field nodes f) (has_small_counts f) h in
-    let ends = and_parts (ltb f.tail nodes) (ltb f.head nodes) (and_parts (has_ends nodes f) (has_counts f) parts.0).0 in
-    let counts = and_parts (ltb f.points 65536) (ltb f.triangles 65536) parts.1 in
+    let parts = and_parts (has_ends nodes f) (has_counts f) h in
+    let ends = and_parts (ltb f.tail nodes) (ltb f.head nodes) parts.0 in
+    let counts = and_parts (is_between 1 65535 f.points) (is_between 1 65535 f.triangles) parts.1 in
     record {
       tail = omega (arith, ltb-true f.tail nodes ends.0);
       head = omega (arith, ltb-true f.head nodes ends.1);
-      points = ltb-true f.points 65536 counts.0;
-      triangles = ltb-true f.triangles 65536 counts.1;
+      points = omega (arith, between_most 1 65535 f.points counts.0);
+      triangles = omega (arith, between_most 1 65535 f.triangles counts.1);
     }
 
-field_takes : (nodes end : ℕ) → UnitTakes (field_at nodes end) field_text (is_file_field nodes)
+field_takes : (nodes end : ℕ) → UnitTakes (field_at nodes end) field_text (is_field nodes)
 unfolding field_at
 field_takes nodes end p bytes x fits e =
     let f = field_in bytes in
@@ -64,15 +60,13 @@ field_takes nodes end p bytes x fits e =
     let counts = rule_ok (has_counts f) (BodyCount p) _ x ends.1 in
     let made : PatchField × List ℕ = (f, drop 12 bytes) in
     let took = Takes-front 12 bytes (field_text f) fits (field_text-in bytes fits (ltb-false (length bytes) 12 t.0)) in
-    let sized = field_in-fits bytes fits in
-    let small : IsTrue (has_small_counts f) = and_from (ltb f.points 65536) (ltb f.triangles 65536) (lt-ltb f.points 65536 sized.points) (lt-ltb f.triangles 65536 sized.triangles) in
-    let passes : IsTrue (is_file_field nodes f) = and_from (is_field nodes f) (has_small_counts f) (and_from (has_ends nodes f) (has_counts f) ends.0 counts.0) small in
-    subst (λ (y : PatchField × List ℕ). Takes bytes (field_text y.0) y.1 × IsTrue (is_file_field nodes y.0)) (ok_is made x counts.1) (took, passes)
+    let passes : IsTrue (is_field nodes f) = and_from (has_ends nodes f) (has_counts f) ends.0 counts.0 in
+    subst (λ (y : PatchField × List ℕ). Takes bytes (field_text y.0) y.1 × IsTrue (is_field nodes y.0)) (ok_is made x counts.1) (took, passes)
 
-field_again : (nodes end : ℕ) → nodes ≤ 65536 → UnitAgain (field_at nodes end) field_text (is_file_field nodes)
+field_again : (nodes end : ℕ) → nodes ≤ 65536 → UnitAgain (field_at nodes end) field_text (is_field nodes)
 unfolding field_at
 field_again nodes end few p f rest h =
-    let rules = and_parts (has_ends nodes f) (has_counts f) (and_parts (is_field nodes f) (has_small_counts f) h).0 in
+    let rules = and_parts (has_ends nodes f) (has_counts f) h in
     let long : ltb (length (field_text f ++ rest)) 12 ≡ false = le-ltb _ 12 (omega (arith, length-append (field_text f) rest, length-field_text f)) in
     let back = field_in-text f rest (FitsField-from nodes f few h) in
     rw (long, ap (has_ends nodes) back ∙ rules.0, ap has_counts back ∙ rules.1, back, drop_at (field_text f) rest 12 (length-field_text f)) refl
@@ -157,9 +151,6 @@ version_fits version h =
       | inr two ↦ omega (arith, eqb-true version 2 two)
     ]
 
-count_most : (low n : ℕ) → IsTrue (is_between low 65536 n) → n ≤ 65536
-count_most low n h = leb-true n 65536 (and_parts (leb low n) (leb n 65536) h).1
-
 header_again : (h : Header) → IsHeader h → header_in (header_bytes h) ≡ Ok h
 header_again h rules =
     let p = number_text 4 h.patches in
@@ -171,8 +162,8 @@ header_again h rules =
     let at12 : drop 12 (magic ++ from4) ≡ p = sym (drop-drop 4 8 (magic ++ from4)) ∙ ap (drop 4) at8 ∙ drop_at (number_text 4 h.nodes) p 4 (length-number_text 4 h.nodes) in
     let version : number_in 2 (drop 4 (magic ++ from4)) ≡ h.version = number_in-text 2 h.version from6 (version_fits h.version rules.version) in
     let none : number_in 2 (drop 6 (magic ++ from4)) ≡ 0 = ap (number_in 2) at6 ∙ number_in-text 2 0 from8 (omega arith) in
-    let nodes : number_in 4 (drop 8 (magic ++ from4)) ≡ h.nodes = ap (number_in 4) at8 ∙ number_in-text 4 h.nodes p (omega (arith, count_most 2 h.nodes rules.node_count)) in
-    let patches : number_in 4 (drop 12 (magic ++ from4)) ≡ h.patches = ap (number_in 4) (at12 ∙ sym (append-nil p)) ∙ number_in-text 4 h.patches [] (omega (arith, count_most 1 h.patches rules.patch_count)) in
+    let nodes : number_in 4 (drop 8 (magic ++ from4)) ≡ h.nodes = ap (number_in 4) at8 ∙ number_in-text 4 h.nodes p (omega (arith, between_most 2 65536 h.nodes rules.node_count)) in
+    let patches : number_in 4 (drop 12 (magic ++ from4)) ≡ h.patches = ap (number_in 4) (at12 ∙ sym (append-nil p)) ∙ number_in-text 4 h.patches [] (omega (arith, between_most 1 65536 h.patches rules.patch_count)) in
     let is : header_of (magic ++ from4) ≡ h = header_same (header_of (magic ++ from4)) h version nodes patches in
     header_read (magic ++ from4) (length-header_bytes h) refl none (subst IsHeader (sym is) rules) ∙ ap done is
 
@@ -196,7 +187,7 @@ record AreReadFields (header : Header) (bytes : List ℕ) (index : IndexLists) :
   text : bytes ≡ fields_text index
   header_is : header ≡ header_for index
   nodes : IsTrue (list_all is_node index.nodes)
-  fields : IsTrue (list_all (is_file_field (length index.nodes)) index.fields)
+  fields : IsTrue (list_all (is_field (length index.nodes)) index.fields)
 
 fields_take : (header : Header) (bytes : List ℕ) (index : IndexLists) → IsBytes bytes → length bytes ≤ fields_size header → fields_in header bytes ≡ Ok index → AreReadFields header bytes index
 unfolding fields_in
@@ -206,7 +197,7 @@ fields_take header bytes index fits short e =
     let b = step_ok (many_at (field_at header.nodes end) header.patches 0 a.0.1) (λ fields. Ok (record { version = header.version; nodes = a.0.0; fields = fields.0 })) index a.2 in
     let made : IndexLists = record { version = header.version; nodes = a.0.0; fields = b.0.0 } in
     let nodes = many_take (node_at end) node_text is_node (node_takes end) header.nodes 0 bytes a.0 fits a.1 in
-    let fields = many_take (field_at header.nodes end) field_text (is_file_field header.nodes) (field_takes header.nodes end) header.patches 0 a.0.1 b.0 nodes.takes.rest_fits b.1 in
+    let fields = many_take (field_at header.nodes end) field_text (is_field header.nodes) (field_takes header.nodes end) header.patches 0 a.0.1 b.0 nodes.takes.rest_fits b.1 in
     let both = Takes-then bytes (flat_map node_text a.0.0) a.0.1 (flat_map field_text b.0.0) b.0.1 nodes.takes fields.takes in
     let header_is : header ≡ header_for made = header_same header (header_for made) refl (sym nodes.count) (sym fields.count) in
     let text = front_is_all bytes (fields_text made) b.0.1 both.parts (omega (arith, length-fields_text made, ap fields_size header_is)) in
@@ -214,17 +205,17 @@ fields_take header bytes index fits short e =
       text = text;
       header_is = header_is;
       nodes = nodes.pass;
-      fields = subst (λ (n : ℕ). IsTrue (list_all (is_file_field n) b.0.0)) (sym nodes.count) fields.pass;
+      fields = subst (λ (n : ℕ). IsTrue (list_all (is_field n) b.0.0)) (sym nodes.count) fields.pass;
     })
 
-fields_again : (index : IndexLists) → length index.nodes ≤ 65536 → IsTrue (list_all is_node index.nodes) → IsTrue (list_all (is_file_field (length index.nodes)) index.fields) → fields_in (header_for index) (fields_text index) ≡ Ok index
+fields_again : (index : IndexLists) → length index.nodes ≤ 65536 → IsTrue (list_all is_node index.nodes) → IsTrue (list_all (is_field (length index.nodes)) index.fields) → fields_in (header_for index) (fields_text index) ≡ Ok index
 unfolding fields_in
 fields_again index few nodes fields =
     let n = length index.nodes in
     let behind = flat_map field_text index.fields in
     let end = 16 + length (fields_text index) in
     let first : many_at (node_at end) n 0 (fields_text index) ≡ Ok (index.nodes, behind) = many_again (node_at end) node_text is_node (node_again end) 0 index.nodes behind nodes in
-    let second : many_at (field_at n end) (length index.fields) 0 behind ≡ Ok (index.fields, []) = ap (many_at (field_at n end) (length index.fields) 0) (sym (append-nil behind)) ∙ many_again (field_at n end) field_text (is_file_field n) (field_again n end few) 0 index.fields [] fields in
+    let second : many_at (field_at n end) (length index.fields) 0 behind ≡ Ok (index.fields, []) = ap (many_at (field_at n end) (length index.fields) 0) (sym (append-nil behind)) ∙ many_again (field_at n end) field_text (is_field n) (field_again n end few) 0 index.fields [] fields in
     rw (first, second) refl
 
 -- ---- all that stands before the bodies
@@ -245,7 +236,6 @@ length-index_text index =
 pub record IsReadIndex (bytes : List ℕ) (index : IndexLists) : Type 0 where
   pub text : bytes ≡ index_text index ++ drop (bodies_offset index) bytes
   pub rules : IsIndex index
-  pub small : IsTrue (list_all has_small_counts index.fields)
 
 -- found: an index that is read is spelled so, and is one
 pub index_text-in : (bytes : List ℕ) (index : IndexLists) → IsBytes bytes → index_in bytes ≡ Ok index → IsReadIndex bytes index
@@ -269,20 +259,19 @@ index_text-in bytes index fits e =
         node_count = is.node_count;
         patch_count = is.patch_count;
         nodes = behind.nodes;
-        fields = all_left (is_field (length index.nodes)) has_small_counts index.fields behind.fields;
+        fields = behind.fields;
       };
-      small = all_right (is_field (length index.nodes)) has_small_counts index.fields behind.fields;
     }
 
 -- again: an index that is spelled is read
-pub index_in-text : (index : IndexLists) (rest : List ℕ) → IsIndex index → IsTrue (list_all has_small_counts index.fields) → index_in (index_text index ++ rest) ≡ Ok index
+pub index_in-text : (index : IndexLists) (rest : List ℕ) → IsIndex index → index_in (index_text index ++ rest) ≡ Ok index
 unfolding index_in index_text
-index_in-text index rest is small =
+index_in-text index rest is =
     let front = header_text index in
     let behind = fields_text index in
     let whole : (front ++ behind) ++ rest ≡ front ++ (behind ++ rest) = append_assoc front behind rest in
     let first : take 16 (front ++ (behind ++ rest)) ≡ header_bytes (header_for index) = take_at front (behind ++ rest) 16 (length-header_text index) ∙ header_text-is index in
     let second : take (fields_size (header_for index)) (drop 16 (front ++ (behind ++ rest))) ≡ behind = ap (take (fields_size (header_for index))) (drop_at front (behind ++ rest) 16 (length-header_text index)) ∙ take_at behind rest (fields_size (header_for index)) (length-fields_text index) in
     let header : header_in (take 16 (front ++ (behind ++ rest))) ≡ Ok (header_for index) = ap header_in first ∙ header_again (header_for index) (record { version = is.version; node_count = is.node_count; patch_count = is.patch_count }) in
-    let fields : fields_in (header_for index) (take (fields_size (header_for index)) (drop 16 (front ++ (behind ++ rest)))) ≡ Ok index = ap (fields_in (header_for index)) second ∙ fields_again index (count_most 2 (length index.nodes) is.node_count) is.nodes (all_both (is_field (length index.nodes)) has_small_counts index.fields is.fields small) in
+    let fields : fields_in (header_for index) (take (fields_size (header_for index)) (drop 16 (front ++ (behind ++ rest)))) ≡ Ok index = ap (fields_in (header_for index)) second ∙ fields_again index (between_most 2 65536 (length index.nodes) is.node_count) is.nodes is.fields in
     ap index_in whole ∙ rw header fields

@@ -7,3 +7,5 @@ pub mod Bodies
 pub mod Indexes
 pub mod Files
 pub mod BodyFaults
+pub mod Appended
+pub mod Growing

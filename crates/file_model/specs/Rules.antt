@@ -31,9 +31,9 @@ is_node n = is_in_grid n.ball.centre && nat_le n.ball.radius 4194304 && nat_le n
 abbrev pub has_ends : ℕ → PatchField → Bool
 has_ends nodes f = nat_lt f.tail nodes && nat_lt f.head nodes
 
--- the body has a point and a triangle
+-- the body has 1 to 65,535 points and 1 to 65,535 triangles
 abbrev pub has_counts : PatchField → Bool
-has_counts f = nat_le 1 f.points && nat_le 1 f.triangles
+has_counts f = is_between 1 65535 f.points && is_between 1 65535 f.triangles
 
 abbrev pub is_field : ℕ → PatchField → Bool
 is_field nodes f = has_ends nodes f && has_counts f

@@ -5,7 +5,7 @@ ghost use Rattle.file_model.specs.Answers.{Gives, IsNotMemory, IsNotReadFault};
 ghost use Rattle.file_model.specs.declared.refusals.ReadRefusal.TheVariants.{ReadFault};
 ghost use Rattle.file_model.specs.Lists.{bodies_offset, body_size};
 ghost use Rattle.file_model.specs.Reading.{header_in, fields_size, fields_in, index_in, body_offset, body_of_file, end_in};
-ghost use Rattle.view_outside.specs.Files.{HasFile, file_bytes};
+ghost use Rattle.view_outside.specs.Files.{HasFile, TellsBytes, file_bytes};
 ghost use Rattle.view_outside.specs.OnlyRead.{OnlyIf, OnlyRead};
 ghost use Rattle.view_outside.specs.Taken.{taken_after, RisesBelow, RisesAtMost};
 ghost use Rattle.patch_file.specs.Headers.{header_seen, IsHeader};
@@ -171,6 +171,7 @@ pub fn read_end<S: Store>(index: &Index, store: &mut S, file: u32) -> Result<(),
     requires { HasFile (S.files store.old) file }
     ensures exact { IfSome (file_bytes (S.files store.old) file)
         (λ bytes. Gives (λ _. tt) result (end_in index.now bytes)) }
+    ensures told { IfOk result (λ _. TellsBytes (S.files store.old) file) }
     ensures memory { IfErr result IsNotMemory }
 
     ensures store { OnlyRead ReadFault (S.files store.old) (S.files store.new)

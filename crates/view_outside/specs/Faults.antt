@@ -6,6 +6,10 @@ use Rattle.std.proofs.Common.{arith}
 abbrev pub Rose : ℕ → ℕ → Type 0
 Rose before now = min (before + 1) (2 ^ 64 - 1) ≤ now
 
+-- the count rose by at least so many, or stands at the last value of a `u64`
+abbrev pub RoseBy : ℕ → ℕ → ℕ → Type 0
+RoseBy n before now = min (before + n) (2 ^ 64 - 1) ≤ now
+
 -- the count of faults after a call, which stays at the last value of a `u64`
 abbrev pub faults_after : Bool → ℕ → ℕ
 faults_after fails faults = if fails then min (faults + 1) (2 ^ 64 - 1) else faults
@@ -14,6 +18,10 @@ faults_after fails faults = if fails then min (faults + 1) (2 ^ 64 - 1) else fau
 pub record HasCause {T E : Type 0} (before now : ℕ) (there : Type 0) (result : Result T E) : Type 0 where
   pub later : before ≤ now
   pub failed : OnErr result (there → Rose before now)
+
+-- two rises are one by their sum
+pub RoseBy-sum : (m n before between now : ℕ) → RoseBy m before between → RoseBy n between now → RoseBy (m + n) before now
+RoseBy-sum m n before between now first second = omega (arith, first, second)
 
 -- what rose before has risen later
 pub Rose-later : (before between now : ℕ) → Rose before between → between ≤ now → Rose before now

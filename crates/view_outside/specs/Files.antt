@@ -1,5 +1,5 @@
 -- The files of a store, where it tells them, and what a look-up and a read answer of them.
-use Rattle.std.specs.Prelude.{◌≡◌, ℕ, ◌<◌, ◌≤◌, List, length, take, drop, Option, None, Some, IsSome, MatchOption, option_map, position, bytes_eq, slice_get, ⊤}
+use Rattle.std.specs.Prelude.{◌≡◌, ℕ, ◌<◌, ◌≤◌, List, length, take, drop, Option, None, Some, IsSome, IfSome, MatchOption, option_map, position, bytes_eq, slice_get, slice_index, ⊤}
 use Rattle.std.proofs.Common.{subst}
 
 -- a file: the bytes of its name, and its bytes
@@ -18,6 +18,14 @@ bytes_at files file = option_map (λ named. named.1) (slice_get files file)
 abbrev pub file_bytes : Option (List Named) → ℕ → Option (List ℕ)
 file_bytes None file = None
 file_bytes (Some files) file = bytes_at files file
+
+-- each is a byte
+abbrev pub AreBytes : List ℕ → Type 0
+AreBytes bytes = (i : ℕ) → slice_index bytes i < 256
+
+-- what the store tells of a file are bytes
+abbrev pub TellsBytes : Option (List Named) → ℕ → Type 0
+TellsBytes files file = IfSome (file_bytes files file) AreBytes
 
 -- where told, the store has a file of this number
 abbrev pub HasFile : Option (List Named) → ℕ → Type 0

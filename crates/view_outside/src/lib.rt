@@ -1,4 +1,4 @@
-//! The outside of the viewer: files that are read, a source of text and a sink of text.
+//! The outside of the viewer: files that are read, a source of text and a sink of text, and gates that a run passes.
 //!
 //! Each is a trait. Those in memory tell what they hold; those over the system's files and streams tell nothing of it.
 //! Each counts its faults, so that a failed call can be traced to the outside.
@@ -7,12 +7,15 @@
 mod copies;
 mod failed;
 mod faults;
+mod gates;
+mod interrupts;
 mod planned;
 mod sinks;
 mod sources;
 mod stores;
 
 pub use failed::Failed;
+pub use gates::{Gate, GatePoint, HoldGate, OpenGate};
 pub use sinks::{MemorySink, Sink, StdSink};
 pub use sources::{MemorySource, Source, StdSource};
 pub use stores::{FolderStore, MemoryStore, NamedFile, Store};

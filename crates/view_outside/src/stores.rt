@@ -2,7 +2,7 @@
 
 ghost use Rattle.std.specs.Prelude.{◌≡◌, ℕ, ◌≤◌, List, length, Option, IfOk, MatchResult};
 ghost use Rattle.view_outside.specs.Faults.{HasCause};
-ghost use Rattle.view_outside.specs.Files.{Named, HasFile, HasName, Finds, ReadsFile};
+ghost use Rattle.view_outside.specs.Files.{Named, HasFile, HasName, Finds, ReadsFile, TellsBytes};
 ghost use Rattle.view_outside.specs.Taken.{taken_after};
 
 use crate::failed::Failed;
@@ -37,6 +37,7 @@ pub trait Store {
     fn read_at(&mut self, file: u32, offset: u64, buffer: &mut [u8]) -> Result<usize, Failed>
         ensures bound { IfOk result (λ n. n ≤ length buffer.new) }
         ensures bytes { IfOk result (λ n. ReadsFile (files self.old) file offset buffer.new n) }
+        ensures told { IfOk result (λ _. TellsBytes (files self.old) file) }
         ensures cause { HasCause (faults self.old) (faults self.new) (HasFile (files self.old) file) result }
         ensures kept { files self.new ≡ files self.old }
         ensures taken { MatchResult result

@@ -3,3 +3,4 @@ pub mod Answers
 pub mod Refusals
 pub mod Endings
 pub mod Told
+pub mod Numbered

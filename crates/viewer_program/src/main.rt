@@ -11,25 +11,22 @@ mod statuses;
 #[cfg(test)]
 mod tests;
 mod texts;
+mod words;
 
 use run::run_still;
-use statuses::{status_code, status_text};
+use statuses::{plain_line, status_code, status_text};
 use std::alloc::AllocError;
-use std::env;
-use std::io::{self, Write};
+use std::io::Write;
 use std::process::ExitCode;
 use text_model::Status;
 use view_outside::{FolderStore, StdSink, StdSource};
-
-// The words behind the program's name.
-fn words(rt: &HostRuntime) -> io::Result<Vec<String>> {
-    Ok(env::args(rt)?.skip(1).collect(rt.alloc())?)
-}
+use words::program_words;
 
 // Runs the command over the folder's files and the standard streams.
 fn run_program(rt: &HostRuntime) -> Result<Status, AllocError> {
-    let Ok(words) = words(rt) else {
-        return Ok(Status::Memory);
+    let words = match program_words(rt, rt.alloc()) {
+        Ok(words) => words,
+        Err(status) => return Ok(status),
     };
     let mut store = FolderStore::new(rt, rt.alloc())?;
     let mut script = StdSource::new(rt.stdin());
@@ -37,8 +34,13 @@ fn run_program(rt: &HostRuntime) -> Result<Status, AllocError> {
     Ok(run_still(rt.alloc(), &words, &mut store, &mut script, &mut sink))
 }
 
-// Writes the status as one line to standard error. Where that fails the code still tells it.
+// Writes the status as one line to standard error. Where that fails, or there is no memory for its numbers,
+// the code still tells it.
 fn tell(rt: &HostRuntime, status: &Status) {
+    if let Some(line) = plain_line(status) {
+        let _ = rt.stderr().write_all(line.as_bytes());
+        return;
+    }
     let mut line = Vec::new(rt.alloc());
     if status_text(rt.alloc(), status, &mut line).is_ok() {
         let _ = rt.stderr().write_all(&line);

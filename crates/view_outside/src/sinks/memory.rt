@@ -73,6 +73,13 @@ impl MemorySink {
     {
         &self.bytes
     }
+
+    /// What was written, of which the sink lets go.
+    pub fn into_bytes(self) -> Vec<u8>
+        ensures { result.items ≡ self.written }
+    {
+        self.bytes
+    }
 }
 
 impl Sink for MemorySink {

@@ -4,6 +4,7 @@ ghost use Rattle.std.specs.Prelude.{◌≡◌, None};
 
 use crate::failed::Failed;
 use crate::faults::FaultCount;
+use crate::interrupts;
 use crate::sinks::Sink;
 use std::io::Write;
 use std::marker::Model;
@@ -41,7 +42,7 @@ impl<W: Write> Sink for StdSink<W> {
 
     // A writer that takes nothing of a piece has failed too.
     fn write(&mut self, piece: &[u8]) -> Result<usize, Failed> {
-        match self.writer.write(piece) {
+        match interrupts::write(&mut self.writer, piece) {
             Ok(n) if n > 0 => Ok(n),
             _ => Err(self.faults.raise()),
         }

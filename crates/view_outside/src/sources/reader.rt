@@ -4,6 +4,7 @@ ghost use Rattle.std.specs.Prelude.{◌≡◌, None};
 
 use crate::failed::Failed;
 use crate::faults::FaultCount;
+use crate::interrupts;
 use crate::sources::Source;
 use std::io::Read;
 use std::marker::Model;
@@ -40,7 +41,7 @@ impl<R: Read> Source for StdSource<R> {
     ghost faults = { λ source. source };
 
     fn read(&mut self, buffer: &mut [u8]) -> Result<usize, Failed> {
-        match self.reader.read(buffer) {
+        match interrupts::read(&mut self.reader, buffer) {
             Ok(n) => Ok(n),
             Err(_) => Err(self.faults.raise()),
         }

@@ -4,10 +4,11 @@ ghost use Rattle.std.specs.Prelude.{◌≡◌, ◌<◌, ◌≤◌, length, None,
 
 use crate::failed::Failed;
 use crate::faults::FaultCount;
+use crate::interrupts;
 use crate::stores::Store;
 use std::alloc::{AllocError, Global};
 use std::fs;
-use std::io::{self, Read, Seek, SeekFrom};
+use std::io::{self, Read, Seek};
 use std::marker::Model;
 use std::rt::Files;
 
@@ -119,6 +120,6 @@ fn place_opened<F>(opened: &[OpenedFile<F>], name: &str) -> Option<usize>
 fn read_from<F: Read + Seek>(file: &mut F, offset: u64, buffer: &mut [u8]) -> io::Result<usize>
     ensures { IfOk result (λ n. n ≤ length buffer.new) }
 {
-    file.seek(SeekFrom::Start(offset))?;
-    file.read(buffer)
+    interrupts::seek(file, offset)?;
+    interrupts::read(file, buffer)
 }

@@ -3,7 +3,7 @@
 ghost use Rattle.std.specs.Prelude.{◌≡◌, ◌^◌, ◌≤◌, length, Some, IfOk, MatchResult, vec_len, string_bytes};
 ghost use Rattle.std.specs.Result.{result_ok, result_unwrap_or};
 ghost use Rattle.view_outside.specs.Faults.{HasCause};
-ghost use Rattle.view_outside.specs.Files.{number_named, HasFile, HasName, Finds, ReadsFile};
+ghost use Rattle.view_outside.specs.Files.{number_named, HasFile, HasName, Finds, ReadsFile, TellsBytes};
 ghost use Rattle.view_outside.specs.StoreState.{find_answer, after_find, read_answer, after_read};
 ghost use Rattle.view_outside.specs.Taken.{taken_after};
 
@@ -129,6 +129,7 @@ impl Store for MemoryStore {
     fn read_at(&mut self, file: u32, offset: u64, buffer: &mut [u8]) -> Result<usize, Failed>
         ensures bound { IfOk result (λ n. n ≤ length buffer.new) }
         ensures bytes { IfOk result (λ n. ReadsFile (Some self.old.files) file offset buffer.new n) }
+        ensures told { IfOk result (λ _. TellsBytes (Some self.old.files) file) }
         ensures cause { HasCause self.old.faults self.new.faults (HasFile (Some self.old.files) file) result }
         ensures kept { self.new.files ≡ self.old.files }
         ensures taken { MatchResult result

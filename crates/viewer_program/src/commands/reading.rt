@@ -54,9 +54,9 @@ fn command_with_view(first: &str, name: &str, view: Option<View>) -> Option<Comm
 fn read_point(x: &str, y: &str, z: &str) -> Option<Point>
     ensures { result ≡ point_in (signed_in EYE_REACH x.now) (signed_in EYE_REACH y.now) (signed_in EYE_REACH z.now) }
 {
-    let x = read_signed(x, EYE_REACH)?;
-    let y = read_signed(y, EYE_REACH)?;
-    let z = read_signed(z, EYE_REACH)?;
+    let x = read_signed(x.as_bytes(), EYE_REACH)?;
+    let y = read_signed(y.as_bytes(), EYE_REACH)?;
+    let z = read_signed(z.as_bytes(), EYE_REACH)?;
     Some(Point { x, y, z })
 }
 
@@ -65,9 +65,9 @@ fn read_view(eye: Option<Point>, focal: &str, threshold: &str, limit: &str) -> O
     ensures { result ≡ view_in eye (number_in GREATEST_FOCAL focal.now) (number_in GREATEST_THRESHOLD threshold.now) (number_in 4294967295 limit.now) }
 {
     let eye = eye?;
-    let focal = read_number(focal, u64::from(GREATEST_FOCAL))?;
-    let threshold = read_number(threshold, u64::from(GREATEST_THRESHOLD))?;
-    let limit = read_number(limit, u64::from(u32::MAX))?;
+    let focal = read_number(focal.as_bytes(), u64::from(GREATEST_FOCAL))?;
+    let threshold = read_number(threshold.as_bytes(), u64::from(GREATEST_THRESHOLD))?;
+    let limit = read_number(limit.as_bytes(), u64::from(u32::MAX))?;
     View::new(eye, focal as u32, threshold as u32, limit as u32)
 }
 

@@ -16,7 +16,7 @@ returns-in_err-finish-clause-told g c =
 
 pub returns-clause-told : goal.returns-clause-told
 returns-clause-told g c =
-    check-accepted _ c.in_ok-checker.checker _ c.in_ok-checker.ensures.told (λ bodies follows. record {
+    check-accepted _ c.in_ok-checker.checker _ c.in_ok-checker.ensures.bytes c.in_ok-checker.ensures.told (λ bodies follows. record {
       index = sym c.in_ok-finish.ensures.index;
       accepted = c.in_ok-finish.ensures.verdict bodies follows;
       facts = c.in_ok-finish.ensures.facts;

@@ -2,7 +2,7 @@
 use Rattle.std.proofs.Common.{◌<◌, refl, ap, ◌∙◌, length, arith}
 use Rattle.std.specs.Prelude.{slice_get}
 use Rattle.std.proofs.lemmas.Result.{err_from_is_err_and}
-use Rattle.dag_check.proofs.ReadLaws.{read-none, read-more, read-refused, read-all, taken-none, taken-more}
+use Rattle.dag_check.proofs.ReadLaws.{read-none, read-more, read-refused, read-all, taken-none, taken-more, taken-cut}
 use Rattle.dag_check.proofs.checks.read_bodies.Goals as goal
 
 pub loop-patch-init : goal.loop-patch-init
@@ -22,6 +22,13 @@ returns-in_err-body-clause-told g c =
     let same = c.index.ensures ∙ c.loop-patch.invariant.index in
     rw (p.1, p.2) (read-refused _ c.args.index c.loop-patch.patch c.loop-patch.checker c.in_err-body.field-0.0 below
     (rw (same, c.loop-patch.invariant.files) at c.in_err-body.ensures.exact) c.loop-patch.invariant.told)
+
+pub returns-in_err-body-clause-cut : goal.returns-in_err-body-clause-cut
+returns-in_err-body-clause-cut g c =
+    let p = err_from_is_err_and c.from_residual-in_err-body.result c.from_residual-in_err-body.ensures.1 in
+    let below : c.loop-patch.patch < length c.args.index.fields = omega (arith, c.patch_count-patches.ensures.value, c.loop-patch-test.true) in
+    let same = c.index.ensures ∙ c.loop-patch.invariant.index in
+    rw (p.1, p.2) (λ is. taken-cut c.args.index c.loop-patch.patch _ _ _ below c.loop-patch.invariant.taken (rw same at (c.in_err-body.ensures.cut is)))
 
 pub loop-patch-preserved : goal.loop-patch-preserved
 loop-patch-preserved g c =

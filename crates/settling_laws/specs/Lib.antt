@@ -1,0 +1,6 @@
+pub mod Stages
+pub mod Underway
+pub mod WeightLaws
+pub mod ChangeLaws
+pub mod FewTurns
+pub mod Midway
