@@ -34,8 +34,9 @@ impl<'m> Model for Session<'m> {
 
 impl<'m> Session<'m> {
     ghost use Rattle.std.specs.Prelude.{◌≡◌, ℕ, ◌^◌, ◌<◌, length, None, Some, IfOk, MatchOption};
-    ghost use Rattle.session_model.specs.Sessions.{opened, with_view, printed_once};
+    ghost use Rattle.session_model.specs.Sessions.{opened, round_ended, with_view, printed_once};
     ghost use Rattle.session_locks.specs.Sessions.{SessionSeen, session_of, with_state, IsSession, IsDone};
+    ghost use Rattle.session_locks.specs.Passes.{HasSameUses};
 
     /// The session of this number, without a view and without a round. It takes the room for all locks.
     pub fn open(alloc: Global, mesh: &'m Mesh, number: u32) -> Result<Session<'m>, NoMemory>
@@ -67,9 +68,17 @@ impl<'m> Session<'m> {
     pub fn set_view(&mut self, view: View)
         ensures { self.new ≡ with_state self.old (with_view view self.old.state) }
     {
+        self.end_round();
+        self.view = Some(view);
+    }
+
+    /// The round ends, and its locks are old ones then.
+    fn end_round(&mut self)
+        ensures state { self.new ≡ with_state self.old (round_ended self.old.state) }
+        ensures same { HasSameUses self.old.state self.new.state }
+    {
         self.round = None;
         self.is_printed = false;
-        self.view = Some(view);
     }
 
     /// The round that stands, and none where there is no round.
@@ -97,3 +106,5 @@ impl<'m> Session<'m> {
         self.frames += 1;
     }
 }
+
+mod stepping;
