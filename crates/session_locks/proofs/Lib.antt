@@ -1,2 +1,4 @@
 mod PassLaws
 mod PartLaws
+mod StepParts
+mod FinishParts

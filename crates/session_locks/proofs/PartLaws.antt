@@ -1,26 +1,24 @@
 -- What the parts of a session keep in each of its changes.
-use Rattle.std.proofs.Common.{◌≡◌, ◌≢◌, ℕ, ◌+◌, ◌<◌, ◌≤◌, Bool, true, false, ◌||◌, cond, List, [], ◌∷◌, length, map, get_or, set, replicate, Option, Some, None, refl, sym, ap, subst, ◌∙◌, inl, inr, arith}
-use Rattle.std.specs.Prelude.{slice_index_or, slice_set}
+use Rattle.std.proofs.Common.{◌≡◌, ℕ, ◌+◌, ◌<◌, ◌≤◌, Bool, true, false, ◌||◌, cond, List, length, map, get_or, set, replicate, Option, Some, None, refl, sym, ap, subst, ◌∙◌, arith}
 use Rattle.std.specs.List.{range_with_len, position}
 use Rattle.std.proofs.lemmas.List.Quantifiers.{position-Some}
-use Rattle.std.specs.Option.{option_map_or, is_some}
-use Rattle.std.proofs.lemmas.Bool.{cases_lt, cond-true, cond-false}
+use Rattle.std.specs.Option.{is_some}
+use Rattle.std.proofs.lemmas.Bool.{cond-true, cond-false}
 use Rattle.std.proofs.lemmas.List.{ext_get_or, get_or-replicate, length-replicate, length-set}
 use Rattle.std.proofs.lemmas.List.FromFn.{get_or-map-range_with_len, length-map-range_with_len}
 use Rattle.file_model.specs.Tries.{is_odd}
 use Rattle.mesh_model.specs.Meshes.{MeshLists, IsMesh}
-use Rattle.round_model.specs.declared.asks.Ask.{Ask}
-use Rattle.round_model.specs.declared.asks.Ask.TheVariants.{Lock, GiveBack, Done as NothingAsked}
+use Rattle.round_model.specs.declared.asks.Ask.TheVariants.{Lock, GiveBack}
 use Rattle.round_model.specs.Views.{ViewSeen}
-use Rattle.round_model.specs.Refiners.{Refining, pending_ask, after_answer, after_release}
-use Rattle.token_words.specs.Changes.{SetAt, Stays}
-use Rattle.session_model.specs.Sessions.{SessionState, is_left_over, locks, uses, least_old, opened, round_ended, settled, with_view, printed_once, without_flight, without_old}
+use Rattle.round_model.specs.Refiners.{Refining, after_answer, after_release}
+use Rattle.token_words.specs.Changes.{SetAt}
+use Rattle.session_model.specs.Sessions.{SessionState, is_left_over, locks, least_old, opened, round_ended, settled, with_view, printed_once, without_flight, without_old}
 use Rattle.session_model.specs.declared.steps.Stepped.TheVariants.{Unlocked, Tried, GaveBack}
 use Rattle.session_model.specs.Steps.{stepped, begun_round, with_round, after_try}
-use Rattle.session_model.specs.SessionStates.{IsSessionState, IsRefused, ended_is, ended_locks, ended_many, ended_like, settled_like, opened_is, viewed_is, viewed_locks, printed_is}
+use Rattle.session_model.specs.SessionStates.{IsSessionState, ended_is, ended_locks, ended_like, opened_is, printed_is}
 use Rattle.session_model.specs.Does.{IsStep}
 use Rattle.session_model.specs.StepLaws.{IsLeast, some_old_in, withdraw_step, unlocked_step, no_round, tried_step, given_step, begun_is, begun_like}
-use Rattle.session_locks.specs.Sessions.{SessionSeen, session_of, with_state, old_of, session_seen, IsSession, AreParts}
+use Rattle.session_locks.specs.Sessions.{SessionSeen, session_of, with_state, old_of, session_seen, AreParts}
 use Rattle.session_locks.specs.Passes.{HasSameUses, same_of_like}
 use Rattle.session_locks.specs.Taken.{IsAsking}
 use Rattle.session_locks.proofs.PassLaws.{moves_by, flag_set}
@@ -251,17 +249,25 @@ module _ (mesh : MeshLists) (number : ℕ) (view : Option ViewSeen) (round : Opt
     pub tried_below : (patches : ℕ) → length mesh.index.fields ≤ patches → p < patches
     tried_below patches many = let within = tried_within in omega (arith, parts.many)
 
-    pub tried_seen : (now : Option Refining) → now ≡ Some (after_answer asking.r p epoch) → session_seen mesh number view now printed (set locked p (is_odd epoch)) (cond (is_odd epoch) None (Some p)) frames ≡ with_state seen tried
+    tried_seen_odd : (now : Option Refining) → now ≡ Some (after_answer asking.r p epoch) → session_seen mesh number view now printed (set locked p (is_odd epoch)) (cond (is_odd epoch) None (Some p)) frames ≡ with_state seen tried
     unfolding after_try
-    tried_seen now is =
+    tried_seen_odd now is =
         ap (λ (flags : List Bool). session_of mesh number (record { view = view; round = now; printed = printed; leftover = flags; flight = cond (is_odd epoch) None (Some p); frames = frames }))
         (kept_old round now asking.r (after_answer asking.r p epoch) locked (set locked p (is_odd epoch)) asking.there is (length-set locked p (is_odd epoch)))
         ∙ ap (λ (o : Option Refining). session_of mesh number (record { view = view; round = o; printed = printed; leftover = old_of round locked; flight = cond (is_odd epoch) None (Some p); frames = frames })) is
 
-    pub tried_parts : (now : Option Refining) → now ≡ Some (after_answer asking.r p epoch) → AreParts (session_seen mesh number view now printed (set locked p (is_odd epoch)) (cond (is_odd epoch) None (Some p)) frames) (set locked p (is_odd epoch))
-    tried_parts now is =
-        changed tried (session_seen mesh number view now printed (set locked p (is_odd epoch)) (cond (is_odd epoch) None (Some p)) frames) (set locked p (is_odd epoch)) parts (tried_seen now is) try.keeps (length-set locked p (is_odd epoch))
-        (moves_by (λ q. get_or locked q false) (locks state) (λ q. get_or (set locked p (is_odd epoch)) q false) (locks tried) p (is_odd epoch) parts.flags (flag_set locked p (is_odd epoch) tried_within) try.does.locked)
+    module _ (now : Option Refining) (granted : Bool) (refused : Option ℕ) (answers : now ≡ Some (after_answer asking.r p epoch)) (grants : granted ≡ is_odd epoch) (refuses : refused ≡ cond (is_odd epoch) None (Some p)) where
+      pub tried_seen : session_seen mesh number view now printed (set locked p granted) refused frames ≡ with_state seen tried
+      tried_seen =
+          ap (λ (b : Bool). session_seen mesh number view now printed (set locked p b) refused frames) grants
+          ∙ ap (λ (o : Option ℕ). session_seen mesh number view now printed (set locked p (is_odd epoch)) o frames) refuses
+          ∙ tried_seen_odd now answers
+
+      pub tried_parts : AreParts (session_seen mesh number view now printed (set locked p granted) refused frames) (set locked p granted)
+      tried_parts =
+          changed tried (session_seen mesh number view now printed (set locked p granted) refused frames) (set locked p granted) parts tried_seen try.keeps (length-set locked p granted)
+          (moves_by (λ q. get_or locked q false) (locks state) (λ q. get_or (set locked p granted) q false) (locks tried) p granted parts.flags (flag_set locked p granted tried_within)
+          (subst (λ (b : Bool). SetAt (locks state) p b (locks tried)) (sym grants) try.does.locked))
 
   -- ---- a lock is given back
 

@@ -1,12 +1,12 @@
 -- A session and its pass change alike.
-use Rattle.std.proofs.Common.{◌≡◌, ◌≢◌, ℕ, ◌<◌, ◌≤◌, Bool, true, false, List, length, get_or, set, Option, Some, None, refl, sym, ap, subst, ◌∙◌, inl, inr, arith}
+use Rattle.std.proofs.Common.{◌≡◌, ℕ, ◌<◌, ◌≤◌, Bool, false, List, length, get_or, set, Option, Some, None, refl, sym, ap, subst, ◌∙◌, inl, inr}
 use Rattle.std.proofs.lemmas.Bool.{cases_eq}
 use Rattle.std.proofs.lemmas.List.{get_or-set_same, get_or-set_other}
 use Rattle.std.specs.Option.{option_map_or}
 use Rattle.round_model.specs.declared.asks.Ask.{Ask}
 use Rattle.round_model.specs.declared.asks.Ask.TheVariants.{Done as NothingAsked}
 use Rattle.round_model.specs.Refiners.{Refining, pending_ask}
-use Rattle.token_words.specs.Changes.{SetAt, Stays}
+use Rattle.token_words.specs.Changes.{SetAt}
 use Rattle.session_model.specs.Sessions.{SessionState, locks, uses}
 use Rattle.session_locks.specs.Sessions.{SessionSeen, with_state}
 use Rattle.session_locks.specs.Passes.{IsPassOf}
@@ -25,7 +25,7 @@ pub flag_set : (flags : List Bool) (p : ℕ) (value : Bool) → p < length flags
 flag_set flags p value within = record { here = get_or-set_same flags p value false within; others = λ q apart. get_or-set_other flags p q value false apart }
 
 -- what is asked for is asked by the round that stands
-pub asking_of : (seen arg : SessionSeen) (r : Refining) (ask : Ask) → seen ≡ arg → arg.state.round ≡ Some r → asked_of arg.state ≡ ask → IsAsking seen.state.round ask
+abbrev pub asking_of : (seen arg : SessionSeen) (r : Refining) (ask : Ask) → seen ≡ arg → arg.state.round ≡ Some r → asked_of arg.state ≡ ask → IsAsking seen.state.round ask
 asking_of seen arg r ask same there asks = record {
   r = r;
   there = ap (λ (s : SessionSeen). s.state.round) same ∙ there;

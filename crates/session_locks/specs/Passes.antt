@@ -1,9 +1,7 @@
 -- The pass of a session: its uses and locks are the session's.
-use Rattle.std.proofs.Common.{◌≡◌, ℕ, ◌≤◌, Bool, length, refl, sym, ◌∙◌, subst}
-use Rattle.mesh_model.specs.Meshes.{MeshLists}
-use Rattle.round_model.specs.Views.{ViewSeen}
-use Rattle.session_model.specs.Sessions.{SessionState, locks, uses, with_view, printed_once}
-use Rattle.session_model.specs.SessionStates.{IsSessionState, IsLike, like_uses}
+use Rattle.std.proofs.Common.{◌≡◌, ℕ, ◌≤◌, Bool, length, sym, ◌∙◌}
+use Rattle.session_model.specs.Sessions.{SessionState, locks, uses}
+use Rattle.session_model.specs.SessionStates.{IsLike, like_uses}
 use Rattle.session_locks.specs.Sessions.{SessionSeen, with_state}
 
 -- the pass is of the words, each patch of the mesh has a word, and what the pass uses and what it has locked is

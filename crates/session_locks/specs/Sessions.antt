@@ -1,10 +1,10 @@
 -- What callers see of a session, and what its parts keep.
-use Rattle.std.specs.Prelude.{◌≡◌, ℕ, ◌≤◌, Bool, false, List, length, replicate, Option, Some, None, slice_index_or}
+use Rattle.std.specs.Prelude.{◌≡◌, ℕ, Bool, false, List, length, replicate, Option, Some, None, slice_index_or}
 use Rattle.mesh_model.specs.Meshes.{MeshLists, IsMesh}
 use Rattle.round_model.specs.declared.asks.Ask.TheVariants.{Done}
 use Rattle.round_model.specs.Views.{ViewSeen}
 use Rattle.round_model.specs.Refiners.{Refining, pending_ask}
-use Rattle.session_model.specs.Sessions.{SessionState, locks, uses}
+use Rattle.session_model.specs.Sessions.{SessionState, locks}
 use Rattle.session_model.specs.SessionStates.{IsSessionState}
 
 -- the mesh, the session's number, and its state

@@ -1,17 +1,15 @@
 -- What a step, steps until a round is done, and a step towards no use make of a session.
 use Rattle.std.specs.Prelude.{◌≡◌, ℕ, ◌<◌, ◌⊎◌, Bool, true, false, List, [], ◌++◌, Option, Some, None, Result, Ok, Err}
-use Rattle.mesh_model.specs.Meshes.{MeshLists}
 use Rattle.round_model.specs.declared.asks.Ask.{Ask}
 use Rattle.round_model.specs.declared.asks.Ask.TheVariants.{Done as NothingAsked}
 use Rattle.round_model.specs.Refiners.{Refining, pending_ask}
 use Rattle.std.specs.Option.{option_map_or}
 use Rattle.session_model.specs.declared.steps.Stepped.{Stepped}
 use Rattle.session_model.specs.declared.steps.Stepped.TheVariants.{Done}
-use Rattle.session_model.specs.Sessions.{SessionState, is_left_over, settled}
-use Rattle.session_model.specs.Steps.{SessionStep, stepped, step, try_pairs, FreeStep, freed, free_step}
+use Rattle.session_model.specs.Sessions.{SessionState, is_left_over, uses, settled}
+use Rattle.session_model.specs.Steps.{stepped, round_or_begun, with_round, answer_ask, step, try_pairs, freed, free_step}
 use Rattle.session_model.specs.Does.{steps_left}
 use Rattle.session_model.specs.FreeLaws.{Frees}
-use Rattle.session_model.specs.DoneRounds.{HasDone}
 use Rattle.session_model.specs.Finishes.{Steps, Finishes, HasFinished}
 use Rattle.session_locks.specs.Sessions.{SessionSeen, with_state}
 
@@ -24,6 +22,21 @@ pub record IsAsking (round : Option Refining) (ask : Ask) : Type 0 where
   pub r : Refining
   pub there : round ≡ Some r
   pub asks : pending_ask r ≡ ask
+
+-- a round goes on, or one has begun
+pub record Starts (old new : SessionSeen) : Type 0 where
+  pub round : Refining
+  pub or_begun : round_or_begun old.mesh old.state ≡ Some round
+  pub is : new ≡ with_state old (with_round old.state round)
+
+-- what the round asked for was done
+pub record GoesOn (old : SessionSeen) (did : Stepped) (new : SessionSeen) : Type 0 where
+  pub mesh : new.mesh ≡ old.mesh
+  pub number : new.number ≡ old.number
+  pub round : Refining
+  pub there : old.state.round ≡ Some round
+  pub epoch : ℕ
+  pub is : stepped did new.state ≡ answer_ask old.state round epoch (pending_ask round)
 
 -- the session took a step: after one that isn't done less is left to do
 pub record TakesStep (old : SessionSeen) (did : Stepped) (new : SessionSeen) : Type 0 where
@@ -74,3 +87,4 @@ pub record TakesFreeStep (old : SessionSeen) (did : Option Stepped) (new : Sessi
   pub number : new.number ≡ old.number
   pub is : freed did new.state ≡ free_step old.state
   pub frees : Frees old.state did new.state
+  pub free : did ≡ None → (p : ℕ) → uses old.state p ≡ false

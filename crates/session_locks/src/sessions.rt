@@ -107,4 +107,5 @@ impl<'m> Session<'m> {
     }
 }
 
+mod ending;
 mod stepping;

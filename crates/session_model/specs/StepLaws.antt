@@ -238,7 +238,7 @@ module _ (mesh : MeshLists) (s : SessionState) (is : IsSessionState mesh s) (r :
 
 -- ---- a round begins, if there is none
 
-same_ask : (s : SessionState) (r : Refining) (epoch : ℕ) (ask : Ask) → answer_ask (with_round s r) r epoch ask ≡ answer_ask s r epoch ask
+pub same_ask : (s : SessionState) (r : Refining) (epoch : ℕ) (ask : Ask) → answer_ask (with_round s r) r epoch ask ≡ answer_ask s r epoch ask
 unfolding after_try
 same_ask s r epoch (Lock p) = refl
 same_ask s r epoch (GiveBack p) = refl

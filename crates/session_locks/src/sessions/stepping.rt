@@ -11,7 +11,7 @@ ghost use Rattle.session_model.specs.Sessions.{is_left_over, least_old, settled,
 ghost use Rattle.session_model.specs.Steps.{begun_round, with_round, after_try, try_pairs, IsOfEpochs};
 ghost use Rattle.session_locks.specs.Sessions.{with_state, IsSession};
 ghost use Rattle.session_locks.specs.Passes.{IsPassOf, HasSameUses};
-ghost use Rattle.session_locks.specs.Taken.{asked_of, IsAsking};
+ghost use Rattle.session_locks.specs.Taken.{asked_of, IsAsking, Starts, GoesOn, TakesStep, Stops, tries_made};
 
 use crate::Stepped;
 use crate::sessions::Session;
@@ -24,7 +24,7 @@ use token_words::Tokens;
 
 impl<'m> Session<'m> {
     /// Ends the refused try of the patch.
-    fn withdraw<T: Tokens>(&mut self, tokens: &mut T, pass: &mut T::Pass, patch: u32)
+    pub(super) fn withdraw<T: Tokens>(&mut self, tokens: &mut T, pass: &mut T::Pass, patch: u32)
         requires pass { IsPassOf (T.IsPass tokens.old pass.old) (T.patches tokens.old) (T.uses tokens.old pass.old) (T.locks tokens.old pass.old) self.old }
         requires there { self.old.state.flight ≡ Some patch }
         ensures pass { IsPassOf (T.IsPass tokens.new pass.new) (T.patches tokens.new) (T.uses tokens.new pass.new) (T.locks tokens.new pass.new) self.new }
@@ -53,7 +53,7 @@ impl<'m> Session<'m> {
     }
 
     /// The least patch with an old lock.
-    fn least_old(&self) -> Option<u32>
+    pub(super) fn least_old(&self) -> Option<u32>
         ensures { result ≡ least_old self.now.state }
     {
         if self.round.is_some() {
@@ -66,7 +66,7 @@ impl<'m> Session<'m> {
     }
 
     /// Gives the old lock of the patch back.
-    fn unlock_old<T: Tokens>(&mut self, tokens: &mut T, pass: &mut T::Pass, patch: u32)
+    pub(super) fn unlock_old<T: Tokens>(&mut self, tokens: &mut T, pass: &mut T::Pass, patch: u32)
         requires pass { IsPassOf (T.IsPass tokens.old pass.old) (T.patches tokens.old) (T.uses tokens.old pass.old) (T.locks tokens.old pass.old) self.old }
         requires there { least_old self.old.state ≡ Some patch }
         requires no_flight { self.old.state.flight ≡ None }
@@ -168,6 +168,90 @@ impl<'m> Session<'m> {
         tokens.unlock(pass, patch);
         tell_given(&mut self.round);
         self.locked[patch as usize] = false;
+    }
+
+    /// A round begins, if there is none. Condition: no old lock is left.
+    fn start(&mut self, alloc: Global) -> Result<(), NoMemory>
+        requires view { (view : ViewSeen) × (self.old.state.view ≡ Some view) }
+        requires no_old { (p : ℕ) → is_left_over self.old.state p ≡ false }
+        requires no_flight { self.old.state.flight ≡ None }
+        requires going { self.old.state.printed ≡ false }
+        ensures round { IfOk result (λ _. Starts self.old self.new) }
+        ensures none { IfErr result (λ _. (self.new ≡ self.old) × (self.old.state.round ≡ None)) }
+        ensures same { HasSameUses self.old.state self.new.state }
+    {
+        if self.round.is_none() {
+            self.begin(alloc)?;
+        }
+        Ok(())
+    }
+
+    /// The round goes on: what it asks for is done.
+    fn go_on<T: Tokens>(&mut self, tokens: &mut T, pass: &mut T::Pass) -> Stepped
+        requires pass { IsPassOf (T.IsPass tokens.old pass.old) (T.patches tokens.old) (T.uses tokens.old pass.old) (T.locks tokens.old pass.old) self.old }
+        requires round { (r : Refining) × (self.old.state.round ≡ Some r) }
+        requires no_flight { self.old.state.flight ≡ None }
+        requires going { self.old.state.printed ≡ false }
+        ensures pass { IsPassOf (T.IsPass tokens.new pass.new) (T.patches tokens.new) (T.uses tokens.new pass.new) (T.locks tokens.new pass.new) self.new }
+        ensures step { GoesOn self.old result self.new }
+        ensures number { (T.number pass.new ≡ T.number pass.old) × (T.pass_table pass.new ≡ T.pass_table pass.old) }
+        ensures words { (T.table tokens.new ≡ T.table tokens.old) × (T.patches tokens.new ≡ T.patches tokens.old) }
+        ensures tries { T.tells_tries ≡ true → T.tries pass.new ≡ T.tries pass.old ++ try_pairs result }
+        ensures epoch { T.tells_epochs ≡ true → IsOfEpochs (T.epochs tokens.old) result }
+        ensures epochs { T.tells_epochs ≡ true → Stays (T.epochs tokens.old) (T.epochs tokens.new) }
+        ensures use_sets { T.tells_sets ≡ true → ChangesOnly (T.number pass.old) (T.session_uses tokens.old) (T.session_uses tokens.new) }
+        ensures lock_sets { T.tells_sets ≡ true → ChangesOnly (T.number pass.old) (T.session_locks tokens.old) (T.session_locks tokens.new) }
+        ensures pins { T.tells_sets ≡ true → Stays (T.pinned tokens.old) (T.pinned tokens.new) }
+    {
+        match self.ask() {
+            Ask::Lock(patch) => Stepped::Tried(patch, self.try_patch(tokens, pass, patch)),
+            Ask::GiveBack(patch) => {
+                self.give_back(tokens, pass, patch);
+                Stepped::GaveBack(patch)
+            }
+            Ask::Done => Stepped::Done,
+        }
+    }
+
+    /// Takes one step. Condition: a view is set, and the uses and the locks of the pass are the session's.
+    ///
+    /// NoMemory comes only where a round was to begin: there is none then, and nothing is locked or in flight.
+    pub fn step<T: Tokens>(
+        &mut self,
+        alloc: Global,
+        tokens: &mut T,
+        pass: &mut T::Pass,
+    ) -> Result<Stepped, NoMemory>
+        requires pass { IsPassOf (T.IsPass tokens.old pass.old) (T.patches tokens.old) (T.uses tokens.old pass.old) (T.locks tokens.old pass.old) self.old }
+        requires view { (view : ViewSeen) × (self.old.state.view ≡ Some view) }
+        ensures pass { IsPassOf (T.IsPass tokens.new pass.new) (T.patches tokens.new) (T.uses tokens.new pass.new) (T.locks tokens.new pass.new) self.new }
+        ensures step { IfOk result (λ did. TakesStep self.old did self.new) }
+        ensures none { IfErr result (λ _. Stops self.old self.new) }
+        ensures facts { IsSession self.new }
+        ensures number { (T.number pass.new ≡ T.number pass.old) × (T.pass_table pass.new ≡ T.pass_table pass.old) }
+        ensures words { (T.table tokens.new ≡ T.table tokens.old) × (T.patches tokens.new ≡ T.patches tokens.old) }
+        ensures tries { T.tells_tries ≡ true → T.tries pass.new ≡ T.tries pass.old ++ tries_made result }
+        ensures epoch { T.tells_epochs ≡ true → IfOk result (IsOfEpochs (T.epochs tokens.old)) }
+        ensures epochs { T.tells_epochs ≡ true → Stays (T.epochs tokens.old) (T.epochs tokens.new) }
+        ensures use_sets { T.tells_sets ≡ true → ChangesOnly (T.number pass.old) (T.session_uses tokens.old) (T.session_uses tokens.new) }
+        ensures lock_sets { T.tells_sets ≡ true → ChangesOnly (T.number pass.old) (T.session_locks tokens.old) (T.session_locks tokens.new) }
+        ensures pins { T.tells_sets ≡ true → Stays (T.pinned tokens.old) (T.pinned tokens.new) }
+    {
+        if let Some(patch) = self.flight {
+            self.withdraw(tokens, pass, patch);
+            let _frames = self.frames;
+            return Ok(Stepped::Withdrew(patch));
+        }
+        self.settle();
+        if let Some(patch) = self.least_old() {
+            self.unlock_old(tokens, pass, patch);
+            let _frames = self.frames;
+            return Ok(Stepped::Unlocked(patch));
+        }
+        self.start(alloc)?;
+        let did = self.go_on(tokens, pass);
+        let _frames = self.frames;
+        Ok(did)
     }
 }
 

@@ -1,5 +1,4 @@
-use Rattle.std.proofs.Common.{◌≡◌, Option, Some, sym, ap, subst, ◌∙◌}
-use Rattle.round_model.specs.Views.{ViewSeen}
+use Rattle.std.proofs.Common.{Some, sym, ap, subst, ◌∙◌}
 use Rattle.round_model.specs.Refiners.{Refining}
 use Rattle.session_model.specs.Sessions.{is_left_over}
 use Rattle.session_model.specs.Steps.{begun_round, with_round}

@@ -1,4 +1,4 @@
-use Rattle.std.proofs.Common.{◌≡◌, None, false, ap, ◌∙◌, subst}
+use Rattle.std.proofs.Common.{None, false, ap, ◌∙◌, subst}
 use Rattle.session_model.specs.Sessions.{round_ended}
 use Rattle.session_locks.specs.Sessions.{SessionSeen, with_state, session_seen}
 use Rattle.session_locks.specs.Passes.{HasSameUses}

@@ -1,10 +1,9 @@
-use Rattle.std.proofs.Common.{◌≡◌, ℕ, ◌<◌, ◌≤◌, Bool, true, false, cond, List, length, set, Option, Some, None, sym, ap, subst, ◌∙◌, arith}
-use Rattle.file_model.specs.Tries.{is_odd}
-use Rattle.round_model.specs.declared.asks.Ask.TheVariants.{Lock, GiveBack}
-use Rattle.round_model.specs.Refiners.{Refining, after_answer, after_release}
-use Rattle.session_model.specs.Sessions.{locks, uses, least_old, without_old}
-use Rattle.session_model.specs.Steps.{with_round, after_try}
-use Rattle.session_locks.specs.Sessions.{SessionSeen, with_state, session_seen, AreParts}
+use Rattle.std.proofs.Common.{◌≤◌, false, length, set, sym, ap, subst, ◌∙◌, arith}
+use Rattle.round_model.specs.declared.asks.Ask.TheVariants.{GiveBack}
+use Rattle.round_model.specs.Refiners.{after_release}
+use Rattle.session_model.specs.Sessions.{locks}
+use Rattle.session_model.specs.Steps.{with_round}
+use Rattle.session_locks.specs.Sessions.{SessionSeen, with_state, session_seen}
 use Rattle.session_locks.specs.Taken.{IsAsking}
 use Rattle.session_locks.proofs.PassLaws.{asking_of, asking_now, pass_moves}
 use Rattle.session_locks.proofs.PartLaws.{give, given_within, given_below, given_seen, given_parts}

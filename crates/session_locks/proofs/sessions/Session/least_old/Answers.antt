@@ -1,4 +1,4 @@
-use Rattle.std.proofs.Common.{◌≡◌, ℕ, Bool, List, Option, Some, None, sym, ap, ◌∙◌}
+use Rattle.std.proofs.Common.{Bool, List, sym, ap, ◌∙◌}
 use Rattle.std.specs.List.{position}
 use Rattle.session_model.specs.Sessions.{least_old}
 use Rattle.session_locks.specs.Sessions.{SessionSeen}

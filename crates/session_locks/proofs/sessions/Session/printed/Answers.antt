@@ -1,4 +1,4 @@
-use Rattle.std.proofs.Common.{◌≡◌, ap, ◌∙◌}
+use Rattle.std.proofs.Common.{ap, ◌∙◌}
 use Rattle.session_model.specs.Sessions.{printed_once}
 use Rattle.session_locks.specs.Sessions.{SessionSeen, with_state}
 use Rattle.session_locks.proofs.PartLaws.{printed_parts, printed_seen}

@@ -1,4 +1,4 @@
-use Rattle.std.proofs.Common.{◌≡◌, ap, ◌∙◌}
+use Rattle.std.proofs.Common.{ap, ◌∙◌}
 use Rattle.session_model.specs.SessionStates.{ended_no_round}
 use Rattle.session_locks.specs.Sessions.{SessionSeen}
 use Rattle.session_locks.proofs.PartLaws.{viewed_parts, viewed_seen}

@@ -1,4 +1,4 @@
-use Rattle.std.proofs.Common.{◌≡◌, sym, ap, ◌∙◌}
+use Rattle.std.proofs.Common.{sym, ap, ◌∙◌}
 use Rattle.session_model.specs.Sessions.{SessionState}
 use Rattle.session_locks.specs.Sessions.{SessionSeen, with_state}
 use Rattle.session_locks.proofs.PartLaws.{settled_then, settled_else}

@@ -1,10 +1,9 @@
-use Rattle.std.proofs.Common.{◌≡◌, ℕ, ◌<◌, ◌≤◌, Bool, true, false, cond, List, length, set, Option, Some, None, sym, ap, subst, ◌∙◌, arith}
+use Rattle.std.proofs.Common.{◌≤◌, true, length, set, sym, ap, subst, ◌∙◌, arith}
 use Rattle.file_model.specs.Tries.{is_odd}
-use Rattle.round_model.specs.declared.asks.Ask.TheVariants.{Lock, GiveBack}
-use Rattle.round_model.specs.Refiners.{Refining, after_answer, after_release}
-use Rattle.session_model.specs.Sessions.{locks, uses, least_old, without_old}
-use Rattle.session_model.specs.Steps.{with_round, after_try}
-use Rattle.session_locks.specs.Sessions.{SessionSeen, with_state, session_seen, AreParts}
+use Rattle.round_model.specs.declared.asks.Ask.TheVariants.{Lock}
+use Rattle.session_model.specs.Sessions.{uses}
+use Rattle.session_model.specs.Steps.{after_try}
+use Rattle.session_locks.specs.Sessions.{SessionSeen, with_state, session_seen}
 use Rattle.session_locks.specs.Taken.{IsAsking}
 use Rattle.session_locks.proofs.PassLaws.{asking_of, asking_now, pass_moves}
 use Rattle.session_locks.proofs.PartLaws.{try, tried_within, tried_below, tried_seen, tried_parts}
@@ -40,10 +39,25 @@ index_mut-requires g c =
     omega arith
 
 pub invariant_of-self : goal.invariant_of-self
-invariant_of-self g c = ?
+invariant_of-self g c =
+    let i = c.self.inside in
+    let seen = session_seen i.mesh.now.lists i.number i.view i.round i.is_printed i.locked.items i.flight i.frames in
+    let asking : IsAsking i.round (Lock c.args.patch) = asking_now seen c.args.self.now (Lock c.args.patch) c.self.view_is c.requires.asks (λ done. cc) in
+    tried_parts i.mesh.now.lists i.number i.view i.round i.is_printed i.locked.items i.flight i.frames c.args.patch c.self.invariant asking (ap (λ (s : SessionSeen). s.state.flight) c.self.view_is ∙ c.requires.no_flight) (ap (λ (s : SessionSeen). s.state.printed) c.self.view_is ∙ c.requires.going) c.try_lock-epoch.result.epoch c.tell.new.round c.is_granted.result c.refused-self-inside.result (c.tell.ensures asking.r c.args.patch asking.there asking.asks) c.is_granted.ensures c.refused-self-inside.ensures
 
 pub returns-clause-pass : goal.returns-clause-pass
-returns-clause-pass g c = ?
+returns-clause-pass g c =
+    let i = c.self.inside in
+    let seen = session_seen i.mesh.now.lists i.number i.view i.round i.is_printed i.locked.items i.flight i.frames in
+    let asking : IsAsking i.round (Lock c.args.patch) = asking_now seen c.args.self.now (Lock c.args.patch) c.self.view_is c.requires.asks (λ done. cc) in
+    let does = (try i.mesh.now.lists i.number i.view i.round i.is_printed i.locked.items i.flight i.frames c.args.patch c.self.invariant asking (ap (λ (s : SessionSeen). s.state.flight) c.self.view_is ∙ c.requires.no_flight) (ap (λ (s : SessionSeen). s.state.printed) c.self.view_is ∙ c.requires.going) c.try_lock-epoch.result.epoch).does in
+    pass_moves (g.T.Tokens.IsPass c.args.tokens.now c.args.pass.now) (g.T.Tokens.IsPass c.try_lock-epoch.new.self c.try_lock-epoch.new.pass) (g.T.Tokens.patches c.args.tokens.now) (g.T.Tokens.patches c.try_lock-epoch.new.self) (g.T.Tokens.uses c.args.tokens.now c.args.pass.now) (g.T.Tokens.locks c.args.tokens.now c.args.pass.now) (g.T.Tokens.uses c.try_lock-epoch.new.self c.try_lock-epoch.new.pass) (g.T.Tokens.locks c.try_lock-epoch.new.self c.try_lock-epoch.new.pass)
+    c.args.self.now seen (session_seen i.mesh.now.lists i.number i.view c.tell.new.round i.is_printed (set i.locked.items c.args.patch c.is_granted.result) c.refused-self-inside.result i.frames) (after_try seen.state asking.r c.args.patch c.try_lock-epoch.result.epoch) c.args.patch true (is_odd c.try_lock-epoch.result.epoch)
+    c.requires.pass c.self.view_is (tried_seen i.mesh.now.lists i.number i.view i.round i.is_printed i.locked.items i.flight i.frames c.args.patch c.self.invariant asking (ap (λ (s : SessionSeen). s.state.flight) c.self.view_is ∙ c.requires.no_flight) (ap (λ (s : SessionSeen). s.state.printed) c.self.view_is ∙ c.requires.going) c.try_lock-epoch.result.epoch c.tell.new.round c.is_granted.result c.refused-self-inside.result (c.tell.ensures asking.r c.args.patch asking.there asking.asks) c.is_granted.ensures c.refused-self-inside.ensures) c.try_lock-epoch.ensures.words.1 c.try_lock-epoch.ensures.pass c.try_lock-epoch.ensures.uses c.try_lock-epoch.ensures.locks does.used does.locked
 
 pub returns-clause-state : goal.returns-clause-state
-returns-clause-state g c r there = ?
+returns-clause-state g c r there =
+    let i = c.self.inside in
+    let seen = session_seen i.mesh.now.lists i.number i.view i.round i.is_printed i.locked.items i.flight i.frames in
+    let asking : IsAsking i.round (Lock c.args.patch) = asking_of seen c.args.self.now r (Lock c.args.patch) c.self.view_is there c.requires.asks in
+    tried_seen i.mesh.now.lists i.number i.view i.round i.is_printed i.locked.items i.flight i.frames c.args.patch c.self.invariant asking (ap (λ (s : SessionSeen). s.state.flight) c.self.view_is ∙ c.requires.no_flight) (ap (λ (s : SessionSeen). s.state.printed) c.self.view_is ∙ c.requires.going) c.try_lock-epoch.result.epoch c.tell.new.round c.is_granted.result c.refused-self-inside.result (c.tell.ensures asking.r c.args.patch asking.there asking.asks) c.is_granted.ensures c.refused-self-inside.ensures ∙ ap (λ (s : SessionSeen). with_state s (after_try s.state r c.args.patch c.try_lock-epoch.result.epoch)) c.self.view_is

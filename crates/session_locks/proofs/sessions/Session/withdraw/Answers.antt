@@ -1,5 +1,4 @@
-use Rattle.std.proofs.Common.{◌≡◌, ℕ, ◌≤◌, Option, length, sym, ap, ◌∙◌, subst}
-use Rattle.mesh_model.specs.Meshes.{MeshLists}
+use Rattle.std.proofs.Common.{◌≤◌, length, sym, ap, ◌∙◌, subst}
 use Rattle.session_locks.specs.Sessions.{SessionSeen}
 use Rattle.session_locks.proofs.PartLaws.{withdrawn_within, withdrawn_parts}
 use Rattle.session_locks.proofs.sessions.Session.withdraw.Goals as goal
