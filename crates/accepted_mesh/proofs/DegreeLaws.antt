@@ -1,5 +1,5 @@
 -- The greatest degree of the nodes so far, and of one node more.
-use Rattle.std.proofs.Common.{◌≡◌, ℕ, ◌+◌, ◌<◌, ◌≤◌, max, List, sym, subst, ◌∙◌, arith, inl, inr, below_more}
+use Rattle.std.proofs.Common.{◌≡◌, ℕ, ◌+◌, ◌<◌, ◌≤◌, max, List, sym, subst, arith, inl, inr, below_more}
 use Rattle.std.proofs.lemmas.Bool.{cases_lt}
 use Rattle.file_model.specs.declared.fields.PatchField.{PatchField}
 use Rattle.accepted_mesh.specs.MeshView.{degree}

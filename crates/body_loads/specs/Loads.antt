@@ -4,6 +4,7 @@ use Rattle.std.specs.List.{Contains, sum_by}
 use Rattle.file_model.specs.declared.faults.FileFault.{FileFault}
 use Rattle.file_model.specs.declared.fields.PatchField.{PatchField}
 use Rattle.file_model.specs.Lists.{BodyLists, IndexLists, SeenBody, body_size}
+use Rattle.file_model.specs.BodyFaults.{IsBodyFault}
 use Rattle.file_model.specs.Reading.{body_of_file, body_offset}
 use Rattle.body_loads.specs.declared.refusals.LoadRefusal.{LoadRefusal}
 use Rattle.body_loads.specs.declared.refusals.LoadRefusal.TheVariants.{Changed, ReadFault, Memory}
@@ -54,3 +55,9 @@ patches_of bodies = map (λ (body : SeenBody). body.patch) bodies
 
 abbrev pub lists_of : List SeenBody → List BodyLists
 lists_of bodies = map (λ (body : SeenBody). body.lists) bodies
+
+-- what changed of a patch is a fault that its body can have
+abbrev pub IsBodyChange : LoadRefusal → Type 0
+IsBodyChange (Changed patch fault) = IsBodyFault patch fault
+IsBodyChange ReadFault = Unit {0}
+IsBodyChange Memory = Unit {0}

@@ -7,7 +7,7 @@ ghost use Rattle.view_outside.specs.OnlyRead.{OnlyIf, OnlyRead};
 ghost use Rattle.view_outside.specs.Taken.{taken_after, RisesBelow, RisesAtMost};
 ghost use Rattle.patch_file.specs.BodyRead.{IsBodyOf};
 ghost use Rattle.body_loads.specs.declared.refusals.LoadRefusal.TheVariants.{ReadFault};
-ghost use Rattle.body_loads.specs.Loads.{body_at, AreBodiesAt, RefusesLoad, NamesOneOf, size_at, sizes_sum, read_as, patches_of};
+ghost use Rattle.body_loads.specs.Loads.{body_at, AreBodiesAt, RefusesLoad, NamesOneOf, IsBodyChange, size_at, sizes_sum, read_as, patches_of};
 
 use crate::refusals::LoadRefusal;
 use file_model::ReadRefusal;
@@ -31,7 +31,7 @@ pub fn load_body<S: Store>(
         (RefusesLoad index.now bytes (patch ∷ []))) }
     ensures body { IfOk result (λ body. IsBodyOf index.now patch (arc_value body)) }
     ensures names { IfErr result (NamesOneOf (patch ∷ [])) }
-
+    ensures changed { IfErr result IsBodyChange }
     ensures store { OnlyRead ReadFault (S.files store.old) (S.files store.new)
         (S.faults store.old) (S.faults store.new) result }
     ensures taken { IfOk result (λ _. S.taken store.new ≡ taken_after (S.taken store.old) (size_at index.now patch)) }
@@ -64,7 +64,7 @@ pub fn load_bodies<S: Store>(
     ensures patches { IfOk result (λ bodies. patches_of (map arc_value bodies.items) ≡ patches.now) }
     ensures bodies { IfOk result (λ bodies. All (λ body. IsBodyOf index.now body.patch body) (map arc_value bodies.items)) }
     ensures names { IfErr result (NamesOneOf patches.now) }
-
+    ensures changed { IfErr result IsBodyChange }
     ensures store { OnlyRead ReadFault (S.files store.old) (S.files store.new)
         (S.faults store.old) (S.faults store.new) result }
     ensures taken { IfOk result (λ _. S.taken store.new ≡ taken_after (S.taken store.old) (sizes_sum index.now patches.now)) }

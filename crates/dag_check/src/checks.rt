@@ -30,7 +30,6 @@ fn read_bodies<S: Store>(
     ensures told { IfSome (file_bytes (S.files store.old) file) (λ bytes. FollowsBodies result (bodies_behind index bytes)) }
     ensures index { IfOk result (λ checker. checker.index ≡ index) }
     ensures all { IfOk result (λ checker. checker.next ≡ length index.fields) }
-
     ensures store { OnlyRead reads.ReadFault (S.files store.old) (S.files store.new)
         (S.faults store.old) (S.faults store.new) result }
     ensures taken { IfOk result (λ _. S.taken store.new
@@ -60,7 +59,6 @@ fn read_rest<S: Store>(
     ensures bytes { IfOk result (λ _. TellsBytes (S.files store.old) file) }
     ensures index { IfOk result (λ checker. checker.index ≡ index) }
     ensures all { IfOk result (λ checker. checker.next ≡ length index.fields) }
-
     ensures store { OnlyRead reads.ReadFault (S.files store.old) (S.files store.new)
         (S.faults store.old) (S.faults store.new) result }
     ensures taken { IfOk result (λ _. S.taken store.new
@@ -90,7 +88,6 @@ pub fn check<S: Store>(
     ensures told { IfSome (file_bytes (S.files store.old) file) (λ bytes. Checks bytes result) }
     ensures index { IfOk result (λ mesh. mesh.lists.index ≡ index) }
     ensures facts { IfOk result (λ mesh. IsMesh mesh.lists) }
-
     ensures store { OnlyRead checks.ReadFault (S.files store.old) (S.files store.new)
         (S.faults store.old) (S.faults store.new) result }
     ensures taken { IfOk result (λ _. S.taken store.new

@@ -1,10 +1,8 @@
 -- What more bytes behind a string change of its reading: nothing but where the string ends too early.
-use Rattle.std.proofs.Common.{◌≡◌, ℕ, zero, suc, ◌+◌, ◌-◌, ◌*◌, ◌<◌, ◌≤◌, Bool, true, false, not, cond, eqb, ltb, leb, List, [], ◌∷◌, ◌++◌, length, take, drop, Result, Ok, Err, refl, sym, ap, subst, ◌∙◌, append_assoc, arith, inl, inr}
-use Rattle.std.specs.Prelude.{slice_index, nat_eq, ◌≢◌, ◌==◌}
-use Rattle.std.specs.List.{list_any, starts_with}
-use Rattle.std.specs.Ordering.{int_eq}
-use Rattle.std.proofs.lemmas.Bool.{cases_Bool, cases_lt, ltb-true, ltb-false, lt-ltb, le-ltb, leb-true, lt-leb, le-leb}
-use Rattle.std.proofs.lemmas.List.{get_or_append_left, take-append-le, drop-append-le, drop-drop, length-append, length-drop, length-take, take_all}
+use Rattle.std.proofs.Common.{◌≡◌, ℕ, zero, suc, ◌+◌, ◌-◌, ◌*◌, ◌<◌, ◌≤◌, Bool, true, false, not, cond, ltb, List, [], ◌∷◌, ◌++◌, length, drop, Result, Ok, Err, refl, sym, ap, subst, arith, inl, inr}
+use Rattle.std.specs.Prelude.{◌≢◌}
+use Rattle.std.proofs.lemmas.Bool.{cases_Bool, ltb-true, ltb-false, le-ltb}
+use Rattle.std.proofs.lemmas.List.{get_or_append_left, drop-append-le, length-append, length-drop}
 use Rattle.byteorder.specs.Endian.{little_from}
 use Rattle.grid_vertex.specs.declared.points.Point.{Point}
 use Rattle.grid_vertex.specs.Points.{is_in_grid}
@@ -12,9 +10,9 @@ use Rattle.grid_vertex.specs.Triangles.{is_flat_triangle}
 use Rattle.file_model.specs.declared.fields.Node.{Node}
 use Rattle.file_model.specs.declared.fields.PatchField.{PatchField}
 use Rattle.file_model.specs.declared.faults.FileFault.{FileFault}
-use Rattle.file_model.specs.declared.faults.FileFault.TheVariants.{Magic, Version, NotZero, NodeCount, PatchCount, Truncated, Trailing, NodeOutOfGrid, ArcEnd, BodyCount, PointOutOfGrid, CornerIndex, Flat, Loose}
+use Rattle.file_model.specs.declared.faults.FileFault.TheVariants.{Truncated, NodeOutOfGrid, ArcEnd, BodyCount, PointOutOfGrid, CornerIndex, Flat}
 use Rattle.file_model.specs.Numbers.{number_in, signed_in}
-use Rattle.file_model.specs.Lists.{Corners, BodyLists, IndexLists, FileLists, triangle_of, body_size, bodies_size, bodies_offset}
+use Rattle.file_model.specs.Lists.{Corners, triangle_of}
 use Rattle.file_model.specs.Reading.{◌>>=◌, many_at, point_in, node_in, field_in, corners_in, shifted_in, node_at, field_at, point_at, shifted_at, triangle_at}
 use Rattle.file_model.specs.Rules.{is_node, has_ends, has_counts}
 

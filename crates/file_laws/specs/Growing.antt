@@ -1,18 +1,17 @@
 -- A file's first fault stays whatever bytes follow, and an end that comes too early is told with the file's length.
-use Rattle.std.proofs.Common.{◌≡◌, ℕ, ◌+◌, ◌-◌, ◌*◌, ◌<◌, ◌≤◌, Bool, true, false, not, cond, eqb, ltb, leb, List, [], ◌∷◌, ◌++◌, length, take, drop, Result, Ok, Err, refl, sym, ap, subst, ◌∙◌, arith, inl, inr}
+use Rattle.std.proofs.Common.{◌≡◌, ℕ, ◌+◌, ◌-◌, ◌*◌, ◌≤◌, Bool, false, not, cond, eqb, leb, List, [], ◌∷◌, ◌++◌, length, take, drop, Result, Ok, Err, refl, sym, ap, ◌∙◌, arith, inl, inr}
 use Rattle.std.specs.Prelude.{nat_eq, ◌==◌}
 use Rattle.std.specs.List.{list_any, starts_with}
 use Rattle.std.specs.Ordering.{int_eq}
-use Rattle.std.proofs.lemmas.Bool.{cases_Bool, cases_lt, lt-leb, leb-true, leb-false}
+use Rattle.std.proofs.lemmas.Bool.{cases_Bool, cases_lt, lt-leb, leb-false}
 use Rattle.std.proofs.Math.Seq.{take-append-add}
-use Rattle.std.proofs.lemmas.List.{append-nil, take-append-le, drop-append-le, drop-drop, length-append, length-drop, length-take, take_all}
+use Rattle.std.proofs.lemmas.List.{append-nil, take-append-le, drop-append-le, length-append, length-drop, length-take, take_all}
 use Rattle.grid_vertex.specs.declared.points.Point.{Point}
-use Rattle.file_model.specs.declared.fields.Node.{Node}
 use Rattle.file_model.specs.declared.fields.PatchField.{PatchField}
 use Rattle.file_model.specs.declared.faults.FileFault.{FileFault}
 use Rattle.file_model.specs.declared.faults.FileFault.TheVariants.{Magic, Version, NotZero, NodeCount, PatchCount, Truncated, Trailing, Loose}
 use Rattle.file_model.specs.Numbers.{number_in}
-use Rattle.file_model.specs.Lists.{Corners, BodyLists, IndexLists, FileLists, body_size, bodies_size, bodies_offset}
+use Rattle.file_model.specs.Lists.{BodyLists, IndexLists, FileLists, body_size, bodies_size, bodies_offset}
 use Rattle.file_model.specs.Spelling.{magic}
 use Rattle.file_model.specs.Reading.{◌>>=◌, many_at, point_in, Header, header_in, node_at, field_at, fields_size, fields_in, index_in, point_at, shifted_at, tight, shifted_points_at, points_at, triangle_at, body_in, body_of_file, bodies_in, file_size, end_in, file_in}
 use Rattle.file_model.specs.Rules.{is_version, is_node_count, is_patch_count}

@@ -17,7 +17,7 @@ use Rattle.file_model.specs.Lists.{Corners}
 use Rattle.file_model.specs.Spelling.{point_text, node_text, field_text, corners_text}
 use Rattle.file_model.specs.Reading.{point_in, node_in, field_in, corners_in}
 use Rattle.file_model.specs.Rules.{is_node, are_corners}
-use Rattle.file_laws.specs.Numbers.{IsBytes, IsBytes-drop, length-number_text, length-signed_text, number_in-text, number_text-in, number_in-fits, signed_in-text, signed_text-in}
+use Rattle.file_laws.specs.Numbers.{IsBytes, IsBytes-drop, length-number_text, length-signed_text, number_in-text, number_text-in, signed_in-text, signed_text-in}
 
 -- ---- pieces of a list
 
@@ -140,14 +140,6 @@ field_text-in bytes fits long =
     let third : number_text 2 (number_in 2 (drop 8 bytes)) ≡ take 2 from_points = number_text-in 2 (drop 8 bytes) (IsBytes-drop 8 bytes fits) (omega (arith, length-drop 8 bytes)) ∙ ap (take 2) third_at in
     let second : number_text 4 (number_in 4 from_head) ≡ take 4 from_head = number_text-in 4 from_head (IsBytes-drop 4 bytes fits) (omega (arith, length-drop 4 bytes)) in
     take_both 4 8 bytes _ _ (number_text-in 4 bytes fits (omega arith)) (take_both 4 4 from_head _ _ second (take_both 2 2 from_points _ _ third fourth))
-
-pub field_in-fits : (bytes : List ℕ) → IsBytes bytes → FitsField (field_in bytes)
-field_in-fits bytes fits = record {
-  tail = number_in-fits 4 bytes fits;
-  head = number_in-fits 4 (drop 4 bytes) (IsBytes-drop 4 bytes fits);
-  points = number_in-fits 2 (drop 8 bytes) (IsBytes-drop 8 bytes fits);
-  triangles = number_in-fits 2 (drop 10 bytes) (IsBytes-drop 10 bytes fits);
-}
 
 -- ---- corners
 

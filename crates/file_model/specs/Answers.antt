@@ -27,3 +27,9 @@ abbrev pub IsNotReadFault : ReadRefusal → Type 0
 IsNotReadFault (File fault) = Unit {0}
 IsNotReadFault ReadFault = ⊥
 IsNotReadFault Memory = Unit {0}
+
+-- a refusal that tells no fault
+abbrev pub IsNotFault : ReadRefusal → Type 0
+IsNotFault (File fault) = ⊥
+IsNotFault ReadFault = Unit {0}
+IsNotFault Memory = Unit {0}

@@ -1,7 +1,8 @@
 //! Reading a patch file: what stands before the bodies, a body, and the file's end.
 
 ghost use Rattle.std.specs.Prelude.{◌≡◌, ◌+◌, ◌*◌, ◌^◌, ◌<◌, ◌≤◌, length, take, drop, IfOk, IfErr, IfSome, OnOk, Ok, slice_get};
-ghost use Rattle.file_model.specs.Answers.{Gives, IsNotMemory, IsNotReadFault};
+ghost use Rattle.file_model.specs.Answers.{Gives, IsNotFault, IsNotMemory, IsNotReadFault};
+ghost use Rattle.file_model.specs.BodyFaults.{RefusesBody};
 ghost use Rattle.file_model.specs.declared.refusals.ReadRefusal.TheVariants.{ReadFault};
 ghost use Rattle.file_model.specs.Lists.{bodies_offset, body_size};
 ghost use Rattle.file_model.specs.Reading.{header_in, fields_size, fields_in, index_in, body_offset, body_of_file, end_in};
@@ -28,10 +29,8 @@ pub fn read_index<S: Store>(alloc: Global, store: &mut S, file: u32) -> Result<I
     requires { HasFile (S.files store.old) file }
     ensures exact { IfSome (file_bytes (S.files store.old) file)
         (λ bytes. Gives (λ index. index) result (index_in bytes)) }
-
     ensures store { OnlyRead ReadFault (S.files store.old) (S.files store.new)
         (S.faults store.old) (S.faults store.new) result }
-
     ensures taken { IfOk result (λ index. S.taken store.new ≡ taken_after (S.taken store.old) (bodies_offset index)) }
     ensures cut { IfErr result (OnlyIf ReadFault
         (RisesBelow (S.taken store.old) (S.taken store.new) (index_size (file_bytes (S.files store.old) file)))) }
@@ -116,10 +115,9 @@ pub fn read_body<S: Store>(
         IfSome (slice_get index.now.fields patch) (λ field. Gives (λ body. body.lists) result
         (body_of_file index.now.version patch field (body_offset index.now patch) bytes))) }
     ensures body { IfOk result (λ body. IsBodyOf index.now patch body) }
-
+    ensures fault { IfErr result (RefusesBody patch) }
     ensures store { OnlyRead ReadFault (S.files store.old) (S.files store.new)
         (S.faults store.old) (S.faults store.new) result }
-
     ensures taken { IfOk result (λ body. S.taken store.new ≡ taken_after (S.taken store.old) (length body.bytes)) }
     ensures most { IfSome (slice_get index.now.fields patch) (λ field.
         RisesAtMost (S.taken store.old) (S.taken store.new) (body_size index.now.version field)) }
@@ -149,6 +147,7 @@ fn read_piece<S: Store>(
     ensures exact { IfSome (file_bytes (S.files store.old) file)
         (λ bytes. Gives (λ piece. piece.items) result (Ok (take size (drop offset bytes)))) }
     ensures short { IfOk result (λ piece. length piece.items ≤ size) }
+    ensures plain { IfErr result IsNotFault }
     ensures store { OnlyRead ReadFault (S.files store.old) (S.files store.new)
         (S.faults store.old) (S.faults store.new) result }
     ensures taken { IfOk result (λ piece. S.taken store.new ≡ taken_after (S.taken store.old) (length piece.items)) }
@@ -173,10 +172,8 @@ pub fn read_end<S: Store>(index: &Index, store: &mut S, file: u32) -> Result<(),
         (λ bytes. Gives (λ _. tt) result (end_in index.now bytes)) }
     ensures told { IfOk result (λ _. TellsBytes (S.files store.old) file) }
     ensures memory { IfErr result IsNotMemory }
-
     ensures store { OnlyRead ReadFault (S.files store.old) (S.files store.new)
         (S.faults store.old) (S.faults store.new) result }
-
     ensures taken { OnOk result (S.taken store.new ≡ S.taken store.old) }
     ensures cut { IfErr result (OnlyIf ReadFault (S.taken store.new ≡ S.taken store.old)) }
     ensures most { RisesAtMost (S.taken store.old) (S.taken store.new) 1 }

@@ -1,6 +1,6 @@
 //! Writing a patch file.
 
-ghost use Rattle.std.specs.Prelude.{◌≡◌, ◌≤◌, ◌++◌, OnErr};
+ghost use Rattle.std.specs.Prelude.{◌≤◌, ◌++◌, OnErr};
 ghost use Rattle.std.specs.List.{flat_map};
 ghost use Rattle.file_model.specs.Spelling.{node_text, field_text, index_text, file_text};
 ghost use Rattle.file_model.specs.Rules.{IsIndex, IsPatchFile};

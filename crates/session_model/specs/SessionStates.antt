@@ -107,6 +107,10 @@ pub ended_many : (s : SessionState) → length (round_ended s).leftover ≡ leng
 unfolding round_ended
 ended_many s = length-map-range_with_len (locks s) 0 (length s.leftover)
 
+pub ended_no_round : (s : SessionState) → (round_ended s).round ≡ None
+unfolding round_ended
+ended_no_round s = refl
+
 pub ended_is : (mesh : MeshLists) (s : SessionState) → IsSessionState mesh s → IsSessionState mesh (round_ended s)
 unfolding round_ended
 ended_is mesh s is = record {

@@ -161,8 +161,8 @@ module _ (mesh : MeshLists) (s : SessionState) (is : IsSessionState mesh s) (r :
     unfolding after_try
     view_then = refl
 
-    is_try : IsStep mesh s (stepped (Tried p epoch) after)
-    is_try = record {
+    pub tried_step : IsStep mesh s (stepped (Tried p epoch) after)
+    tried_step = record {
       does = record { within = within_mesh p (asked_within r refining p asks); free = uses_here p ∙ asked_is_free r refining p asks; locked = locked; used = used };
       keeps = try_keeps;
       view = view_then;
@@ -199,8 +199,8 @@ module _ (mesh : MeshLists) (s : SessionState) (is : IsSessionState mesh s) (r :
     given_within : p < length s.leftover
     given_within = within_mesh p (locked_within r refining p (owed_is_locked r refining p asks))
 
-    is_given : IsStep mesh s (stepped (GaveBack p) given)
-    is_given = record {
+    pub given_step : IsStep mesh s (stepped (GaveBack p) given)
+    given_step = record {
       does = record { within = given_within; held = given_held; locked = given_locks; used = given_uses };
       keeps = record {
         many = is.many;
@@ -229,8 +229,8 @@ module _ (mesh : MeshLists) (s : SessionState) (is : IsSessionState mesh s) (r :
   }
 
   by_ask : (epoch : ℕ) (ask : Ask) → pending_ask r ≡ ask → IsStep mesh s (answer_ask s r epoch ask)
-  by_ask epoch (Lock p) asks = is_try p epoch asks
-  by_ask epoch (GiveBack p) asks = is_given p asks
+  by_ask epoch (Lock p) asks = tried_step p epoch asks
+  by_ask epoch (GiveBack p) asks = given_step p asks
   by_ask epoch NothingAsked asks = is_done
 
   pub asked_step : (epoch : ℕ) → IsStep mesh s (go_on s epoch (Some r))
@@ -238,7 +238,7 @@ module _ (mesh : MeshLists) (s : SessionState) (is : IsSessionState mesh s) (r :
 
 -- ---- a round begins, if there is none
 
-same_ask : (s : SessionState) (r : Refining) (epoch : ℕ) (ask : Ask) → answer_ask (with_round s r) r epoch ask ≡ answer_ask s r epoch ask
+pub same_ask : (s : SessionState) (r : Refining) (epoch : ℕ) (ask : Ask) → answer_ask (with_round s r) r epoch ask ≡ answer_ask s r epoch ask
 unfolding after_try
 same_ask s r epoch (Lock p) = refl
 same_ask s r epoch (GiveBack p) = refl
@@ -249,7 +249,7 @@ module _ (mesh : MeshLists) (accepted : IsMesh mesh) (s : SessionState) (is : Is
     abbrev begun : SessionState
     begun = with_round s (begun_round mesh view)
 
-    begun_is : IsSessionState mesh begun
+    pub begun_is : IsSessionState mesh begun
     begun_is = record {
       many = is.many;
       running = λ t e. subst (IsRunning mesh begun) (round_is (begun_round mesh view) t e) (record {
@@ -262,7 +262,7 @@ module _ (mesh : MeshLists) (accepted : IsMesh mesh) (s : SessionState) (is : Is
       flight = λ q e. absurd (cc);
     }
 
-    begun_like : IsLike s begun
+    pub begun_like : IsLike s begun
     begun_like = record {
       view = refl;
       many = refl;
@@ -299,7 +299,7 @@ module _ (mesh : MeshLists) (accepted : IsMesh mesh) (s : SessionState) (is : Is
     abbrev unlocked : SessionState
     unlocked = without_old s p
 
-    no_round : s.round ≡ None
+    pub no_round : s.round ≡ None
     no_round = no_round_with_old p old.there s.round refl
 
     locks_of_old : (q : ℕ) → locks s q ≡ is_left_over s q

@@ -17,3 +17,9 @@ pub record IsBaseText (file : FileLists) (root : ℕ) (text : List ℕ) : Type 0
   pub shows : ShowsCut file root (root_alone root) frame
   pub untried : frame.tries ≡ []
   pub is : IsFrameText frame text
+
+-- the text is a frame's, the first of a session 0, of whatever file
+pub record IsStillText (text : List ℕ) : Type 0 where
+  pub frame : Frame
+  pub still : IsStill frame
+  pub is : IsFrameText frame text

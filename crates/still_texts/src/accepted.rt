@@ -2,7 +2,7 @@
 
 ghost use Rattle.std.specs.Prelude.{◌≡◌, IfOk};
 ghost use Rattle.file_model.specs.Lists.{FileLists};
-ghost use Rattle.text_model.specs.AcceptedText.{IsAcceptedText};
+ghost use Rattle.text_model.specs.AcceptedText.{IsAcceptedText, IsAcceptedLine};
 ghost use Rattle.accepted_mesh.specs.MeshView.{IsMeshOf};
 
 use accepted_mesh::Mesh;
@@ -13,7 +13,8 @@ use std::alloc::Global;
 /// The line that tells of an accepted file: how many nodes, patches, triangles and open edges it has.
 #[tactic(auto, unfolding(text_model::specs::AcceptedText::accepted_line))]
 pub fn accepted_text(alloc: Global, mesh: &Mesh) -> Result<Vec<u8>, NoMemory>
-    ensures { (file : FileLists) → IsMeshOf file mesh.now → IfOk result (λ text. IsAcceptedText file mesh.now.lists.root text.items) }
+    ensures of_file { (file : FileLists) → IsMeshOf file mesh.now → IfOk result (λ text. IsAcceptedText file mesh.now.lists.root text.items) }
+    ensures line { IfOk result (λ text. IsAcceptedLine text.items) }
 {
     let counts = [
         Part::Word("nodes"),

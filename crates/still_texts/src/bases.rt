@@ -1,13 +1,14 @@
 //! The frame of the root's patches.
 
-ghost use Rattle.std.specs.Prelude.{◌≡◌, Ok, IfSome};
+ghost use Rattle.std.specs.Prelude.{◌≡◌, Ok, IfOk, IfErr, IfSome};
 ghost use Rattle.file_model.specs.Lists.{FileLists};
 ghost use Rattle.file_model.specs.Reading.{file_in};
 ghost use Rattle.view_outside.specs.Files.{HasFile, file_bytes};
 ghost use Rattle.accepted_mesh.specs.MeshView.{IsMeshOf};
 ghost use Rattle.view_outside.specs.OnlyRead.{OnlyRead};
 ghost use Rattle.body_loads.specs.declared.refusals.LoadRefusal.TheVariants.{ReadFault};
-ghost use Rattle.still_texts.specs.Shown.{IsBaseText};
+ghost use Rattle.body_loads.specs.Loads.{IsBodyChange};
+ghost use Rattle.still_texts.specs.Shown.{IsBaseText, IsStillText};
 ghost use Rattle.still_texts.specs.Texts.{GivesText};
 
 use accepted_mesh::Mesh;
@@ -27,6 +28,8 @@ pub fn base_text<S: Store>(
     requires { HasFile (S.files store.old) file }
     ensures told { IfSome (file_bytes (S.files store.old) file) (λ bytes. (lists : FileLists) → file_in bytes ≡ Ok lists
         → IsMeshOf lists mesh.now → GivesText (IsBaseText lists mesh.now.lists.root) result) }
+    ensures frame { IfOk result (λ text. IsStillText text.items) }
+    ensures changed { IfErr result IsBodyChange }
     ensures store { OnlyRead ReadFault (S.files store.old) (S.files store.new)
         (S.faults store.old) (S.faults store.new) result }
 {

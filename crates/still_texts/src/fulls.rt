@@ -1,6 +1,6 @@
 //! The frame of a round in which every try is granted.
 
-ghost use Rattle.std.specs.Prelude.{◌≡◌, [], Ok, IfOk, IfSome};
+ghost use Rattle.std.specs.Prelude.{◌≡◌, [], Ok, IfOk, IfErr, IfSome};
 ghost use Rattle.std.specs.List.{AllByRecursion};
 ghost use Rattle.file_model.specs.Lists.{FileLists};
 ghost use Rattle.file_model.specs.Reading.{file_in};
@@ -12,6 +12,8 @@ ghost use Rattle.round_model.specs.Refiners.{pending_ask, round_state};
 ghost use Rattle.accepted_mesh.specs.MeshView.{IsMeshOf};
 ghost use Rattle.body_loads.specs.declared.refusals.LoadRefusal.TheVariants.{ReadFault};
 ghost use Rattle.round_model.specs.Views.{view_rules};
+ghost use Rattle.body_loads.specs.Loads.{IsBodyChange};
+ghost use Rattle.still_texts.specs.Shown.{IsStillText};
 ghost use Rattle.still_texts.specs.Full.{IsFullText};
 ghost use Rattle.still_texts.specs.Texts.{GivesText};
 
@@ -50,6 +52,8 @@ pub fn full_text<S: Store>(
     requires { HasFile (S.files store.old) file }
     ensures told { IfSome (file_bytes (S.files store.old) file) (λ bytes. (lists : FileLists) → file_in bytes ≡ Ok lists
         → IsMeshOf lists mesh.now → GivesText (IsFullText view.now lists mesh.now.lists.root) result) }
+    ensures frame { IfOk result (λ text. IsStillText text.items) }
+    ensures changed { IfErr result IsBodyChange }
     ensures store { OnlyRead ReadFault (S.files store.old) (S.files store.new)
         (S.faults store.old) (S.faults store.new) result }
 {

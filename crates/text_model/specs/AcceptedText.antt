@@ -16,3 +16,11 @@ pub record IsAcceptedText (file : FileLists) (root : ℕ) (text : List ℕ) : Ty
   pub open_edges : ℕ
   pub counted : HasOpenPairs (triangles_out_of file root) open_edges
   pub is : text ≡ accepted_line (length file.index.nodes) (length file.index.fields) (triangles_in_all file.index.fields) open_edges
+
+-- the text is an accepted line, of whatever file
+pub record IsAcceptedLine (text : List ℕ) : Type 0 where
+  pub nodes : ℕ
+  pub patches : ℕ
+  pub triangles : ℕ
+  pub open_edges : ℕ
+  pub is : text ≡ accepted_line nodes patches triangles open_edges

@@ -32,6 +32,10 @@ fn write<S: Sink>(sink: &mut S, piece: &[u8]) -> Result<usize, Failed>
     sink.write(piece)
 }
 
+fn pass<G: Gate + Sync>(gate: &G, point: GatePoint) {
+    gate.pass(point);
+}
+
 #[test]
 fn a_store_in_memory(rt: HostRuntime) -> Result<(), Fail> {
     let alloc = rt.alloc();
@@ -203,15 +207,15 @@ fn an_interrupted_write_is_made_again(rt: HostRuntime) {
 
 #[test]
 fn gates_hold_for_so_many_turns(rt: HostRuntime) {
-    OpenGate.pass(GatePoint::LockTry(1));
+    pass(&OpenGate, GatePoint::LockTry(1));
     let gate = HoldGate::new(GatePoint::LockTry(1), GatePoint::TierTurn(0), 3);
-    gate.pass(GatePoint::LockTry(2));
-    gate.pass(GatePoint::TierTurn(1));
+    pass(&gate, GatePoint::LockTry(2));
+    pass(&gate, GatePoint::TierTurn(1));
     assert_eq!(rt; gate.late(), false, "nobody was held");
-    gate.pass(GatePoint::TierTurn(0));
-    gate.pass(GatePoint::LockTry(1));
+    pass(&gate, GatePoint::TierTurn(0));
+    pass(&gate, GatePoint::LockTry(1));
     assert_eq!(rt; gate.late(), false, "the other place was passed");
     let gate = HoldGate::new(GatePoint::FrameDone(1), GatePoint::FrameDone(2), 3);
-    gate.pass(GatePoint::FrameDone(1));
+    pass(&gate, GatePoint::FrameDone(1));
     assert_eq!(rt; gate.late(), true, "the turns ran out");
 }

@@ -1,10 +1,13 @@
 -- What each status means for what was written.
-use Rattle.std.specs.Prelude.{◌≡◌, ℕ, List, Option, Result, Ok, Err}
-use Rattle.mesh_model.specs.declared.refusals.Refusal.{Refusal}
+use Rattle.std.specs.Prelude.{◌≡◌, ℕ, List, Option}
+use Rattle.file_model.specs.BodyFaults.{IsBodyFault}
 use Rattle.text_model.specs.declared.statuses.Status.{Status}
 use Rattle.text_model.specs.declared.statuses.Status.TheVariants as statuses
 use Rattle.view_outside.specs.Streams.{appended}
 use Rattle.patch_file.specs.Written.{WritesPart}
+use Rattle.viewer_program.specs.declared.commands.Command.{Command}
+use Rattle.viewer_program.specs.declared.commands.Command.TheVariants.{Base, Check, Full}
+use Rattle.viewer_program.specs.Answers.{IsRefusalOf}
 
 -- nothing was written, but where all of a text was, or a part
 abbrev pub IsQuiet : Status → Option (List ℕ) → Option (List ℕ) → Type 0
@@ -12,30 +15,36 @@ IsQuiet statuses.Ok before after = Unit {0}
 IsQuiet statuses.WriteFault before after = Unit {0}
 IsQuiet status before after = after ≡ before
 
--- what a status that comes before anything is written means for what may be answered: a refusal is an
--- answer, and a failing store or want of memory says nothing. No script is read, there is no budget, and a
--- file whose bytes are told doesn't change
-abbrev pub Stops : (Result (List ℕ) Refusal → Type 0) → Status → Type 0
-Stops answers (statuses.Refused refusal) = answers (Err refusal)
-Stops answers statuses.ReadFault = Unit {0}
-Stops answers statuses.Memory = Unit {0}
-Stops answers status = ⊥
+-- what a status that stops a command says of a file of these bytes: a refusal is theirs, and a failing store or want of
+-- memory says nothing. No script is read, there is no budget, and a file whose bytes are told doesn't change
+abbrev pub StopsAt : List ℕ → Status → Type 0
+StopsAt bytes (statuses.Refused refusal) = IsRefusalOf bytes refusal
+StopsAt bytes statuses.ReadFault = Unit {0}
+StopsAt bytes statuses.Memory = Unit {0}
+StopsAt bytes status = ⊥
 
--- a text, or a status that stops the command
-abbrev pub Gives : (Result (List ℕ) Refusal → Type 0) → Result (List ℕ) Status → Type 0
-Gives answers (Ok text) = answers (Ok text)
-Gives answers (Err status) = Stops answers status
+-- the command loads bodies again after the check
+abbrev pub LoadsAgain : Command → Type 0
+LoadsAgain Base = Unit {0}
+LoadsAgain Check = ⊥
+LoadsAgain (Full view) = Unit {0}
 
--- Ok: a text that is an answer was written and nothing else. WriteFault: a proper prefix of one
-abbrev pub Ends : (Result (List ℕ) Refusal → Type 0) → Status → Option (List ℕ) → Option (List ℕ) → Type 0
-Ends answers statuses.Ok before after = (text : List ℕ) × answers (Ok text) × (after ≡ appended before text)
-Ends answers statuses.WriteFault before after = (text : List ℕ) × answers (Ok text) × WritesPart before after text
-Ends answers status before after = Stops answers status
+-- the statuses that can stop a command before anything is written, whatever the store tells: a change only where bodies
+-- are loaded again
+abbrev pub CanStop : Command → Status → Type 0
+CanStop command (statuses.Refused refusal) = Unit {0}
+CanStop command statuses.ReadFault = Unit {0}
+CanStop command statuses.Memory = Unit {0}
+CanStop command (statuses.Changed patch fault) = LoadsAgain command
+CanStop command status = ⊥
 
--- the status stops a command before anything is written
-abbrev pub IsStop : Status → Type 0
-IsStop (statuses.Refused refusal) = Unit {0}
-IsStop statuses.ReadFault = Unit {0}
-IsStop statuses.Memory = Unit {0}
-IsStop (statuses.Changed patch fault) = Unit {0}
-IsStop status = ⊥
+-- Ok: a text was written and nothing else. WriteFault: a proper prefix of one. Any other status refuses
+abbrev pub Ends : (List ℕ → Type 0) → (Status → Type 0) → Status → Option (List ℕ) → Option (List ℕ) → Type 0
+Ends is_text refuses statuses.Ok before after = (text : List ℕ) × is_text text × (after ≡ appended before text)
+Ends is_text refuses statuses.WriteFault before after = (text : List ℕ) × is_text text × WritesPart before after text
+Ends is_text refuses status before after = refuses status
+
+-- what changed of a patch is a fault that its body can have
+abbrev pub IsChange : Status → Type 0
+IsChange (statuses.Changed patch fault) = IsBodyFault patch fault
+IsChange status = Unit {0}

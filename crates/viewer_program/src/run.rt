@@ -6,8 +6,8 @@ ghost use Rattle.view_outside.specs.Faults.{Rose};
 ghost use Rattle.view_outside.specs.Files.{HasName, LacksName};
 ghost use Rattle.view_outside.specs.OnlyRead.{OnlyIf};
 ghost use Rattle.viewer_program.specs.Commands.{command_in, name_in};
-ghost use Rattle.viewer_program.specs.Answers.{IsAnswer};
-ghost use Rattle.viewer_program.specs.Endings.{Ends, IsQuiet};
+ghost use Rattle.viewer_program.specs.Answers.{IsTextOf, IsOfAccepted, IsTextOfKind};
+ghost use Rattle.viewer_program.specs.Endings.{StopsAt, CanStop, Ends, IsChange, IsQuiet};
 ghost use Rattle.viewer_program.specs.Told.{named_bytes};
 
 use crate::commands::{Command, command_of, file_name};
@@ -26,7 +26,9 @@ fn run_command<S: Store, O: Sink>(
     sink: &mut O,
 ) -> Status
     ensures told { IfSome (named_bytes (S.files store.old) name.now) (λ bytes.
-        Ends (IsAnswer command bytes) result (O.written sink.old) (O.written sink.new)) }
+        Ends (IsOfAccepted (IsTextOf command) bytes) (StopsAt bytes) result (O.written sink.old) (O.written sink.new)) }
+    ensures statuses { Ends (IsTextOfKind command) (CanStop command) result (O.written sink.old) (O.written sink.new) }
+    ensures changed { IsChange result }
     ensures quiet { IsQuiet result (O.written sink.old) (O.written sink.new) }
     ensures read_fault { OnlyIf ReadFault (HasName (S.files store.old) name.now → Rose (S.faults store.old) (S.faults store.new)) result }
     ensures missing { LacksName (S.files store.old) name.now → result ≡ ReadFault }
@@ -60,7 +62,14 @@ pub fn run_still<S: Store, I: Source, O: Sink>(
     // What each status means where the store tells the bytes of the named file.
     ensures told { IfSome (command_in (map string_bytes words.now)) (λ command.
         IfSome (named_bytes (S.files store.old) (name_in (map string_bytes words.now))) (λ bytes.
-        Ends (IsAnswer command bytes) result (O.written sink.old) (O.written sink.new))) }
+        Ends (IsOfAccepted (IsTextOf command) bytes) (StopsAt bytes) result (O.written sink.old) (O.written sink.new))) }
+    // Which statuses a row can have whatever the store tells. What it writes is a text of its kind.
+    ensures statuses { IfSome (command_in (map string_bytes words.now)) (λ command.
+        Ends (IsTextOfKind command) (CanStop command) result (O.written sink.old) (O.written sink.new)) }
+    // A change is told with a fault that the patch's body can have.
+    ensures changed { IsChange result }
+    // The script is left as it was.
+    ensures script { (I.rest _script.new ≡ I.rest _script.old) × (I.faults _script.new ≡ I.faults _script.old) }
     // Nothing is written but where the status is Ok or WriteFault.
     ensures quiet { IsQuiet result (O.written sink.old) (O.written sink.new) }
     // A read fault comes only where the store failed, or tells that it has no file of that name,

@@ -1,6 +1,6 @@
 //! The text that a command writes of a file, or why there is none.
 
-ghost use Rattle.std.specs.Prelude.{◌≡◌, Ok, IfErr, IfSome};
+ghost use Rattle.std.specs.Prelude.{◌≡◌, Ok, IfOk, IfErr, IfSome, MatchResult};
 ghost use Rattle.file_model.specs.Lists.{FileLists};
 ghost use Rattle.file_model.specs.Reading.{file_in};
 ghost use Rattle.view_outside.specs.Files.{HasFile, file_bytes};
@@ -11,8 +11,9 @@ ghost use Rattle.dag_check.specs.declared.refusals.CheckRefusal.TheVariants as c
 ghost use Rattle.body_loads.specs.declared.refusals.LoadRefusal.TheVariants as loads;
 ghost use Rattle.text_model.specs.declared.statuses.Status.TheVariants as statuses;
 ghost use Rattle.still_texts.specs.Texts.{GivesText};
-ghost use Rattle.viewer_program.specs.Answers.{IsTextOf, IsAnswer, text_answer};
-ghost use Rattle.viewer_program.specs.Endings.{Gives, IsStop};
+ghost use Rattle.viewer_program.specs.Answers.{IsTextOf, IsOfAccepted, IsTextOfKind};
+ghost use Rattle.viewer_program.specs.Endings.{StopsAt, CanStop, IsChange};
+ghost use Rattle.viewer_program.specs.Refusals.{load_status};
 
 use crate::commands::Command;
 use crate::refusals::{status_of_check, status_of_load};
@@ -46,6 +47,9 @@ fn text_of<S: Store>(
     requires { HasFile (S.files store.old) file }
     ensures told { IfSome (file_bytes (S.files store.old) file) (λ bytes. (lists : FileLists) → file_in bytes ≡ Ok lists
         → IsMeshOf lists mesh.now → GivesText (IsTextOf command lists mesh.now.lists.root) result) }
+    ensures kind { IfOk result (λ text. IsTextOfKind command text.items) }
+    ensures stop { IfErr result (λ refusal. CanStop command (load_status refusal)) }
+    ensures changed { IfErr result (λ refusal. IsChange (load_status refusal)) }
     ensures store { OnlyRead loads.ReadFault (S.files store.old) (S.files store.new)
         (S.faults store.old) (S.faults store.new) result }
 {
@@ -67,8 +71,11 @@ pub fn command_text<S: Store>(
     file: u32,
 ) -> Result<Vec<u8>, Status>
     requires { HasFile (S.files store.old) file }
-    ensures told { IfSome (file_bytes (S.files store.old) file) (λ bytes. Gives (IsAnswer command bytes) (text_answer result)) }
-    ensures stop { IfErr result IsStop }
+    ensures told { IfSome (file_bytes (S.files store.old) file) (λ bytes.
+        MatchResult result (λ text. IsOfAccepted (IsTextOf command) bytes text.items) (StopsAt bytes)) }
+    ensures kind { IfOk result (λ text. IsTextOfKind command text.items) }
+    ensures stop { IfErr result (CanStop command) }
+    ensures changed { IfErr result IsChange }
     ensures store { OnlyRead statuses.ReadFault (S.files store.old) (S.files store.new)
         (S.faults store.old) (S.faults store.new) result }
 {

@@ -4,25 +4,39 @@ ghost use Rattle.std.specs.Prelude.{◌≡◌, None};
 
 use view_outside::{Failed, Store};
 
-/// A store of one file, of which it tells nothing. It gives a byte at a time. The byte in one place is
-/// another from its second read on.
-#[derive(Drop)]
-pub struct ChangingStore {
-    bytes: Vec<u8>,
+/// A byte that is another from its second read on.
+#[derive(Clone, Copy, Debug, PartialEq, Eq)]
+pub struct Change {
     place: u64,
     byte: u8,
     was_read: bool,
+}
+
+impl Change {
+    /// The byte in this place becomes this one.
+    pub fn new(place: u64, byte: u8) -> Change {
+        Change {
+            place,
+            byte,
+            was_read: false,
+        }
+    }
+}
+
+/// A store of one file, of which it tells nothing. It gives a byte at a time.
+#[derive(Drop)]
+pub struct ChangingStore {
+    bytes: Vec<u8>,
+    changes: Vec<Change>,
     taken: u128,
 }
 
 impl ChangingStore {
-    /// The store of these bytes, of which the one in this place is another from its second read on.
-    pub fn new(bytes: Vec<u8>, place: u64, byte: u8) -> ChangingStore {
+    /// The store of these bytes, which change so.
+    pub fn new(bytes: Vec<u8>, changes: Vec<Change>) -> ChangingStore {
         ChangingStore {
             bytes,
-            place,
-            byte,
-            was_read: false,
+            changes,
             taken: 0,
         }
     }
@@ -31,13 +45,14 @@ impl ChangingStore {
     fn byte_at(&mut self, offset: u64) -> Option<u8>
         ensures { self.new.taken ≡ self.old.taken }
     {
-        if offset != self.place {
-            return self.bytes.get(offset as usize).copied();
+        for change in &mut self.changes {
+            if change.place == offset {
+                if change.was_read {
+                    return Some(change.byte);
+                }
+                change.was_read = true;
+            }
         }
-        if self.was_read {
-            return Some(self.byte);
-        }
-        self.was_read = true;
         self.bytes.get(offset as usize).copied()
     }
 }

@@ -2,6 +2,7 @@ use Rattle.std.proofs.Common.{◌≡◌, length, ap, ◌∙◌, arith}
 use Rattle.std.specs.Prelude.{slice_get, IsTrue}
 use Rattle.file_model.specs.Lists.{body_size}
 use Rattle.file_model.specs.Rules.{fits_field}
+use Rattle.file_laws.specs.BodyFaults.{body_fault}
 use Rattle.patch_file.proofs.BodyUnits.{body_is, if_some_from, if_some_at, has_counts_at}
 use Rattle.patch_file.proofs.readers.read_body.Goals as goal
 
@@ -24,3 +25,6 @@ returns-in-Ok-clause-body g c =
       fits = if_some_from (slice_get index.fields c.args.patch) field (λ f. IsTrue (fits_field f c.in-Ok.body.lists)) c.patch-field.ensures read.fits;
       size = if_some_from (slice_get index.fields c.args.patch) field (λ f. length c.in-Ok.body.bytes ≡ body_size index.version f) c.patch-field.ensures whole;
     }
+
+pub returns-in-Err-clause-fault : goal.returns-in-Err-clause-fault
+returns-in-Err-clause-fault g c = body_fault _ c.args.patch _ _ _ _ c.in-Err.ensures.exact

@@ -1,4 +1,4 @@
-use Rattle.std.proofs.Common.{map}
+use Rattle.std.proofs.Common.{map, refl}
 use Rattle.std.specs.Arc.{arc_value}
 use Rattle.std.proofs.lemmas.Result.{err_from_is_err_and}
 use Rattle.body_loads.specs.PatchLists.{chosen_below, chosen_within}
@@ -26,3 +26,6 @@ returns-clause-told g c =
     told_base _ c.args.mesh.now (map arc_value c.in_ok-bodies.bodies.items) _
     (rw (c.index.ensures.value, c.base.ensures) at c.in_ok-bodies.ensures.told)
     (rw (c.root.ensures.value, c.base-2.ensures, c.deref.ensures.value) at (first_text _ _ _ c.new-text.ensures.items c.in_ok-frame_text.ensures.ok))
+
+pub returns-clause-frame : goal.returns-clause-frame
+returns-clause-frame g c = record { frame = _; still = record { session = refl; number = refl }; is = first_text _ _ _ c.new-text.ensures.items c.in_ok-frame_text.ensures.ok }

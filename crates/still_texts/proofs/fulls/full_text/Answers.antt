@@ -1,5 +1,5 @@
 -- The bodies of a granted round's frame are loaded and printed.
-use Rattle.std.proofs.Common.{map, sym, ◌∙◌}
+use Rattle.std.proofs.Common.{map, refl, sym, ◌∙◌}
 use Rattle.std.specs.Arc.{arc_value}
 use Rattle.std.proofs.lemmas.Result.{err_from_is_err_and}
 use Rattle.accepted_mesh.specs.MeshView.{IsMeshOf}
@@ -25,3 +25,6 @@ returns-clause-told g c =
     told_full _ c.args.view.now c.args.mesh.now round (map arc_value c.in_ok-bodies.bodies.items) _ c.in_ok-round.ensures.rules through
     (rw (c.index.ensures.value, c.patches.ensures.patches) at c.in_ok-bodies.ensures.told)
     (rw (c.cut.ensures.nodes, c.tries.ensures.value, c.patches-2.ensures.patches, c.deref.ensures.value) at (first_text _ _ _ c.new-text.ensures.items c.in_ok-frame_text.ensures.ok))
+
+pub returns-clause-frame : goal.returns-clause-frame
+returns-clause-frame g c = record { frame = _; still = record { session = refl; number = refl }; is = first_text _ _ _ c.new-text.ensures.items c.in_ok-frame_text.ensures.ok }

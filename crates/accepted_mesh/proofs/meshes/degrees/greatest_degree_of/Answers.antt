@@ -1,7 +1,6 @@
 -- One node more is looked at.
 use Rattle.std.proofs.Common.{◌≡◌, ◌<◌, max, ◌∙◌, sym, ap, length, arith}
 use Rattle.std.proofs.lemmas.Option.{same_Some}
-use Rattle.mesh_model.specs.Graph.{outgoing}
 use Rattle.accepted_mesh.specs.MeshView.{degree}
 use Rattle.accepted_mesh.proofs.DegreeLaws.{most_more, some_more}
 use Rattle.accepted_mesh.proofs.meshes.degrees.greatest_degree_of.Goals as goal

@@ -1,0 +1,4 @@
+mod PassLaws
+mod PartLaws
+mod StepParts
+mod FinishParts

@@ -1,0 +1,4 @@
+pub mod FetchWords
+pub mod RuleSteps
+pub mod WordLaws
+pub mod WholeTurns

@@ -1,0 +1,12 @@
+use Rattle.std.proofs.Common.{◌≡◌, ℕ, ◌-◌, List, ap, sym, ◌∙◌}
+use Rattle.tier_model.specs.Tiers.{pinned_bytes}
+use Rattle.transfer_step.specs.TurnWords.{told_of, may_come}
+use Rattle.transfer_step.proofs.admitting.find_candidate.Goals as goal
+
+pub returns-clause-candidate : goal.returns-clause-candidate
+returns-clause-candidate g c =
+    let told = told_of (g.B.Supply.has (g.B.Supply.place c.args.below.now)) g.K.Keeper.has_words (g.K.Keeper.epochs c.args.keeper.now) in
+    let s = c.args.tier.now.state in
+    let room : c.saturating_sub-room.result ≡ s.budget - pinned_bytes s = cc in
+    c.find_missing.ensures.candidate told (λ p answer within answered.
+    sym (answered ∙ ap (λ (sizes : List ℕ). may_come told sizes c.saturating_sub-room.result p) c.requires.index ∙ ap (λ (n : ℕ). may_come told s.sizes n p) room))

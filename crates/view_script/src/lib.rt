@@ -1,0 +1,20 @@
+//! Reading a script: its lines with words, or the first fault that it has.
+//!
+//! `docs/TEXTS.md` tells the script language, and `script_model` defines it.
+#![tactic(auto)]
+
+mod reading;
+mod refusals;
+mod scripts;
+mod sessions;
+mod sources;
+mod spelling;
+mod views;
+mod words;
+
+pub use refusals::ScriptRefusal;
+pub use script_model::{Line, MOST_SCRIPT, Mode, Order, SESSIONS};
+pub use scripts::{Script, read_script};
+
+#[cfg(test)]
+mod tests;

@@ -1,0 +1,41 @@
+//! Words that are no command, and names of no file.
+
+use super::*;
+
+#[test]
+fn no_commands(rt: HostRuntime) -> Result<(), Fail> {
+    let alloc = rt.alloc();
+    for words in [
+        &[][..],
+        &["base"][..],
+        &["base", ""][..],
+        &["check", ""][..],
+        &["base", "Q", "Q"][..],
+        &["bases", "Q"][..],
+        &["full", "Q"][..],
+        &["full", "", "2", "2", "104", "100", "9", "100"][..],
+        &["full", "Q", "2", "2", "104", "100", "9"][..],
+        &["play", "Q"][..],
+        &["play", "Q", "0144"][..],
+        &["serve", "Q", "144"][..],
+        &["make", "3"][..],
+    ] {
+        let (status, written) = run_on(alloc, words, &square())?;
+        assert_eq!(rt; (status, written.as_str()), (Status::Usage, ""));
+    }
+    Ok(())
+}
+
+#[test]
+fn a_missing_file(rt: HostRuntime) -> Result<(), Fail> {
+    let alloc = rt.alloc();
+    for words in [
+        &["base", "R"][..],
+        &["check", "R"][..],
+        &["full", "R", "2", "2", "104", "100", "9", "100"][..],
+    ] {
+        let (status, written) = run_on(alloc, words, &square())?;
+        assert_eq!(rt; (status, written.as_str()), (Status::ReadFault, ""));
+    }
+    Ok(())
+}
