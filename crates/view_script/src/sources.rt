@@ -33,7 +33,7 @@ fn read_piece<I: Source>(
     ensures unjudged { IfErr result IsUnjudged }
 {
     let n = match source.read(piece) {
-        Ok(n) => n,
+        Ok(count) => count,
         Err(Failed) => return Err(ScriptRefusal::ReadFault),
     };
     bytes.extend_from_slice(&piece[..n])?;
