@@ -3,7 +3,7 @@ use Rattle.std.specs.Prelude.{◌≡◌, ℕ, ◌+◌, ◌<◌, Bool, true, fals
 use Rattle.std.proofs.Common.{subst, arith}
 use Rattle.std.specs.List.{list_all}
 use Rattle.std.specs.Option.{option_to_list}
-use Rattle.std.proofs.lemmas.Bool.{lt-ltb, and_parts}
+use Rattle.std.proofs.lemmas.Bool.{lt-ltb, ltb-true, and_parts}
 use Rattle.text_model.specs.declared.faults.ScriptFault.{ScriptFault}
 use Rattle.text_model.specs.declared.faults.ScriptFault.TheVariants.{TooLong, NotText, SessionOut, AlreadyThere, NotThere, NoView, NoTier, PlayOnly}
 use Rattle.script_model.specs.declared.limits.TheConstants.{MOST_SCRIPT}
@@ -138,3 +138,25 @@ are_lines mode tiers bytes lines e = lines_are mode tiers (lines_of bytes) no_se
 pub script_are_lines : (mode : Mode) (tiers : ℕ) (bytes : List ℕ) (lines : List Line) → script_in mode tiers bytes ≡ Ok lines → AreLines mode tiers lines
 unfolding script_in
 script_are_lines mode tiers bytes lines e = script_lines mode tiers (nat_lt MOST_SCRIPT (length bytes)) bytes lines e
+
+-- the first of several lines: its number is above, its order may stand here, and the others may stand behind it
+pub record StandsFirst (mode : Mode) (tiers : ℕ) (history : History) (above : ℕ) (line : Line) (lines : List Line) : Type 0 where
+  pub ascends : above < line.number
+  pub allowed : allows tiers history line.order ≡ true
+  pub kept_in : is_left_out mode line.order ≡ false
+  pub others : are_lines_from mode tiers (history_after history line.order) line.number lines ≡ true
+
+stands : (mode : Mode) (tiers : ℕ) (history : History) (above : ℕ) (line : Line) (lines : List Line) (a b c d : Bool)
+    → nat_lt above line.number ≡ a → allows tiers history line.order ≡ b → is_left_out mode line.order ≡ c → are_lines_from mode tiers (history_after history line.order) line.number lines ≡ d
+    → (a && b && not c && d) ≡ true → StandsFirst mode tiers history above line lines
+stands mode tiers history above line lines true true false true is_a is_b is_c is_d is = record { ascends = ltb-true above line.number is_a; allowed = is_b; kept_in = is_c; others = is_d }
+stands mode tiers history above line lines false b c d is_a is_b is_c is_d is = absurd cc
+stands mode tiers history above line lines true false c d is_a is_b is_c is_d is = absurd cc
+stands mode tiers history above line lines true true true d is_a is_b is_c is_d is = absurd cc
+stands mode tiers history above line lines true true false false is_a is_b is_c is_d is = absurd cc
+
+-- of lines that may be a script's, the first may stand there
+pub first_stands : (mode : Mode) (tiers : ℕ) (history : History) (above : ℕ) (line : Line) (lines : List Line) → are_lines_from mode tiers history above (line ∷ lines) ≡ true → StandsFirst mode tiers history above line lines
+unfolding are_lines_from
+first_stands mode tiers history above line lines is =
+    stands mode tiers history above line lines (nat_lt above line.number) (allows tiers history line.order) (is_left_out mode line.order) (are_lines_from mode tiers (history_after history line.order) line.number lines) refl refl refl refl is
