@@ -1,0 +1,4 @@
+pub mod Maxima
+pub mod Boards
+pub mod BoardView
+pub mod BoardLaws
