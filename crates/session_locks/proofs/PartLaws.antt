@@ -123,6 +123,9 @@ module _ (mesh : MeshLists) (number : ℕ) (view : Option ViewSeen) (round : Opt
   unfolding printed_once
   printed_parts parts = changed (printed_once state) (session_seen mesh number view round true locked flight (frames + 1)) locked parts printed_seen (printed_is mesh state parts.session.is) refl parts.flags
 
+  pub printed_same : HasSameUses state (session_seen mesh number view round true locked flight (frames + 1)).state
+  printed_same = record { uses_are = λ p. refl; locks_are = λ p. refl }
+
   -- ---- the round ends
 
   pub ended_seen : AreParts seen locked → session_seen mesh number view None false locked flight frames ≡ with_state seen (round_ended state)

@@ -22,13 +22,15 @@ round_is r t e = cc
 
 taken : (old new : SessionSeen) (did : Stepped) (epoch : ℕ) → IsSession old → new.mesh ≡ old.mesh → new.number ≡ old.number → stepped did new.state ≡ step old.mesh old.state epoch → TakesStep old did new
 taken old new did epoch session mesh number is =
+    let one = step_is old.mesh session.accepted old.state session.is epoch in
     let P : SessionStep → Type 0 = λ r. (r.did ≡ Done) ⊎ (steps_left r.state < steps_left old.state) in
     record {
       mesh = mesh;
       number = number;
+      view = ap (λ (r : SessionStep). r.state.view) is ∙ one.view;
       epoch = epoch;
       is = is;
-      lowers = subst P (sym is) (step_is old.mesh session.accepted old.state session.is epoch).lowers;
+      lowers = subst P (sym is) one.lowers;
     }
 
 -- a refused try is withdrawn

@@ -42,6 +42,7 @@ pub record GoesOn (old : SessionSeen) (did : Stepped) (new : SessionSeen) : Type
 pub record TakesStep (old : SessionSeen) (did : Stepped) (new : SessionSeen) : Type 0 where
   pub mesh : new.mesh ≡ old.mesh
   pub number : new.number ≡ old.number
+  pub view : new.state.view ≡ old.state.view
   pub epoch : ℕ
   pub is : stepped did new.state ≡ step old.mesh old.state epoch
   pub lowers : (did ≡ Done) ⊎ (steps_left new.state < steps_left old.state)

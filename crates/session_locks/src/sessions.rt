@@ -66,7 +66,8 @@ impl<'m> Session<'m> {
 
     /// Sets the view, which ends the round: its locks are old ones then.
     pub fn set_view(&mut self, view: View)
-        ensures { self.new ≡ with_state self.old (with_view view self.old.state) }
+        ensures state { self.new ≡ with_state self.old (with_view view self.old.state) }
+        ensures same { HasSameUses self.old.state self.new.state }
     {
         self.end_round();
         self.view = Some(view);
@@ -100,7 +101,8 @@ impl<'m> Session<'m> {
     pub fn printed(&mut self)
         requires done { IsDone self.old.state }
         requires few { self.old.state.frames < 2 ^ 63 }
-        ensures { self.new ≡ with_state self.old (printed_once self.old.state) }
+        ensures state { self.new ≡ with_state self.old (printed_once self.old.state) }
+        ensures same { HasSameUses self.old.state self.new.state }
     {
         self.is_printed = true;
         self.frames += 1;
