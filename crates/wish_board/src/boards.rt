@@ -59,7 +59,6 @@ impl WishBoard {
         ensures posted { OnOk result (self.new ≡ with_view self.old session (Some (posted_view (W.scores want.now mesh.now.lists) (W.least want.now)))) }
         ensures refused { OnErr result (self.new ≡ self.old) }
     {
-        let _nodes = mesh.index();
         let view = PostedView::of(*self.greatest.allocator(), mesh, want)?;
         self.put(session, Some(view));
         Ok(())

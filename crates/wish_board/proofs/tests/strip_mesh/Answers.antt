@@ -1,9 +1,7 @@
 -- The graph of an index with a root makes a mesh.
-use Rattle.std.proofs.Common.{◌≡◌, ℕ, List, Ok, sym, ◌∙◌, subst}
-use Rattle.std.specs.Prelude.{Result}
+use Rattle.std.proofs.Common.{ℕ, List, sym, ◌∙◌, subst}
 use Rattle.file_model.specs.declared.fields.Node.{Node}
 use Rattle.file_model.specs.declared.fields.PatchField.{PatchField}
-use Rattle.mesh_model.specs.declared.refusals.DagFault.{DagFault}
 use Rattle.mesh_graph.specs.Graphs.{IsGraphOf, IsVerdict, index_of}
 use Rattle.wish_board.proofs.tests.strip_mesh.Goals as goal
 

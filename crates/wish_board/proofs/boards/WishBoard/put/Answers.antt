@@ -5,7 +5,7 @@ use Rattle.std.specs.Vec.{with_items}
 use Rattle.std.proofs.lemmas.List.{with_items_is}
 use Rattle.tier_model.specs.Ranks.{Posted}
 use Rattle.wish_board.specs.Maxima.{AreGreatest}
-use Rattle.wish_board.specs.Boards.{BoardSeen, with_view, next_version}
+use Rattle.wish_board.specs.Boards.{BoardSeen, with_view}
 use Rattle.wish_board.specs.BoardView.{board_view}
 use Rattle.wish_board.proofs.BoardLemmas.{scored-set, board-moved, with_view_is}
 use Rattle.wish_board.proofs.boards.WishBoard.put.Goals as goal
@@ -23,7 +23,7 @@ invariant_of-self c =
     let now = c.find_greatest.new.greatest in
     let scored = subst (λ (b : BoardSeen). IfSome c.args.view (λ (v : Posted). length v.scores ≡ b.nodes)) (sym c.self.view_is) c.requires.scored in
     let greatest : AreGreatest board.nodes views now = rw (← c.deref.ensures.value, ← c.deref_mut.ensures.value) c.find_greatest.ensures in
-    board-moved board c.self.inside.greatest.items now (with_items c.self.inside.greatest now).items (c.args.session - 1) (next_version board.version) c.args.view c.self.invariant scored greatest
+    board-moved board c.self.inside.greatest.items now (with_items c.self.inside.greatest now).items (c.args.session - 1) _ c.args.view c.self.invariant scored greatest
     (with_items_is c.self.inside.greatest now (greatest.all_nodes ∙ sym c.self.inside.greatest.ok.0))
 
 pub returns : goal.returns
