@@ -20,3 +20,6 @@ pub use supplies::Supply;
 pub use tier_budget::{Tier, Turn};
 pub use tier_supply::TierSupply;
 pub use turns::{ranked_turn, take_wishes, turn};
+
+#[cfg(test)]
+mod tests;

@@ -15,6 +15,7 @@ use std::sync::Arc;
 use view_outside::Store;
 
 /// A file in a store as a supply of the lowest tier: it has every patch of the file's index.
+#[derive(Drop)]
 pub struct StoreSupply<'a, S: Store> {
     pub index: &'a Index,
     pub store: &'a mut S,

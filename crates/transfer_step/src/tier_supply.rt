@@ -10,6 +10,7 @@ use std::alloc::Global;
 use tier_budget::Tier;
 
 /// A tier as a supply of the one above it: it has the patches that it holds.
+#[derive(Drop)]
 pub struct TierSupply<'a> {
     pub tier: &'a Tier,
 }
