@@ -1,11 +1,10 @@
 //! Sessions over plain words: each step, and what is given back.
 
 ghost use Rattle.std.specs.Prelude.{◌≡◌, ℕ, ◌≤◌, Bool, true, false, List, length, Some, None, IfOk};
-ghost use Rattle.mesh_model.specs.Meshes.{MeshLists};
 ghost use Rattle.round_model.specs.Views.{ViewSeen};
-ghost use Rattle.session_model.specs.Sessions.{opened};
-ghost use Rattle.session_locks.specs.Sessions.{session_of};
 ghost use Rattle.session_locks.specs.Passes.{IsPassOf};
+ghost use Rattle.token_words.specs.PlainTokens.{patch_count, is_user, is_locker, session_of, IsUnused};
+ghost use Rattle.token_words.specs.Sessions.{IsSession};
 
 use super::*;
 use accepted_mesh::Mesh;
@@ -40,39 +39,32 @@ fn view(eye: [i32; 3], focal: u32, threshold: u32) -> Result<View, Fail> {
     }
 }
 
-/// The strip's words: the base patches 0 and 1 are pinned, and the others have these epochs.
-fn words(alloc: Global, epochs: [u32; 5]) -> Result<PlainTokens, Fail> {
-    let [a, b, c, d, e] = epochs;
-    let words = [
+/// The word of a patch that is there or not.
+fn word(is_there: bool) -> Word {
+    if is_there {
         Word {
             epoch: 1,
-            is_pinned: true,
-        },
-        Word {
-            epoch: 1,
-            is_pinned: true,
-        },
-        Word {
-            epoch: a,
             is_pinned: false,
-        },
+        }
+    } else {
         Word {
-            epoch: b,
+            epoch: 0,
             is_pinned: false,
-        },
-        Word {
-            epoch: c,
-            is_pinned: false,
-        },
-        Word {
-            epoch: d,
-            is_pinned: false,
-        },
-        Word {
-            epoch: e,
-            is_pinned: false,
-        },
-    ];
+        }
+    }
+}
+
+/// The strip's words: which of patches 2 to 6 are there.
+fn words(alloc: Global, are_there: [bool; 5]) -> Result<PlainTokens, Fail>
+    ensures patches { IfOk result (λ tokens. patch_count tokens ≡ 7) }
+    ensures unused { IfOk result IsUnused }
+{
+    let base = Word {
+        epoch: 1,
+        is_pinned: true,
+    };
+    let [a, b, c, d, e] = are_there;
+    let words = [base, base, word(a), word(b), word(c), word(d), word(e)];
     Ok(PlainTokens::with_words(alloc, &words)?)
 }
 
@@ -112,19 +104,129 @@ fn expect_freed<T: Tokens>(
     assert_eq!(rt; session.free_step(tokens, pass), None);
 }
 
+/// Session 1 over a mesh of at most seven patches, with this view, and its pass.
+fn seated<'m>(
+    alloc: Global,
+    mesh: &'m Mesh,
+    tokens: &PlainTokens,
+    view: View,
+) -> Result<(Session<'m>, PlainPass), Fail>
+    requires patches { patch_count tokens.now ≡ 7 }
+    requires unused { IsUnused tokens.now }
+    ensures pass { IfOk result (λ seat. IsPassOf (IsSession (session_of seat.1)) (patch_count tokens.now) (is_user tokens.now (session_of seat.1)) (is_locker tokens.now (session_of seat.1)) seat.0) }
+    ensures view { IfOk result (λ seat. (view : ViewSeen) × (seat.0.state.view ≡ Some view)) }
+{
+    if mesh.index().patch_count() > 7 {
+        return Err(Fail::from("more than seven patches"));
+    }
+    let pass = tokens.pass(1);
+    let mut session = Session::open(alloc, mesh, 1)?;
+    session.set_view(view);
+    Ok((session, pass))
+}
+
+/// Over the strip with these patches there, a view takes these steps, and then these uses are ended.
+fn expect_session(
+    rt: &impl Abort,
+    alloc: Global,
+    are_there: [bool; 5],
+    view: View,
+    steps: &[Stepped],
+    freed: &[Stepped],
+) -> Result<(), Fail> {
+    let mesh = mesh_of(alloc, &strip())?;
+    let mut tokens = words(alloc, are_there)?;
+    let (mut session, mut pass) = seated(alloc, &mesh, &tokens, view)?;
+    expect_steps(rt, alloc, &mut session, &mut tokens, &mut pass, steps)?;
+    expect_freed(rt, &mut session, &mut tokens, &mut pass, freed);
+    Ok(())
+}
+
+fn tried(patch: u32, epoch: u32) -> Stepped {
+    Stepped::Tried(patch, epoch)
+}
+
 #[test]
-fn two_sessions_lock_what_is_there_and_free_it(rt: HostRuntime) -> Result<(), Fail> {
-    let mesh = mesh_of(rt.alloc(), &strip())?;
-    let mut tokens = words(rt.alloc(), [0, 0, 1, 1, 0])?;
-    let mut first = tokens.pass(1);
-    let mut one = Session::open(rt.alloc(), &mesh, 1)?;
-    one.set_view(view([12, 2, 0], 3, 100)?);
-    let tried = [
-        Stepped::Tried(4, 1),
-        Stepped::Tried(5, 1),
-        Stepped::Done,
+fn what_was_granted_stays_locked(rt: HostRuntime) -> Result<(), Fail> {
+    let right = view([12, 2, 0], 3, 100)?;
+    let are_there = [false, false, true, true, false];
+    let steps = [tried(4, 1), tried(5, 1), Stepped::Done, Stepped::Done];
+    let freed = [Stepped::Unlocked(4), Stepped::Unlocked(5)];
+    expect_session(&rt, rt.alloc(), are_there, right, &steps, &freed)?;
+    // A round under way is freed too.
+    expect_session(&rt, rt.alloc(), are_there, right, &steps[..1], &freed[..1])
+}
+
+#[test]
+fn a_refused_try_is_withdrawn_in_the_next_step(rt: HostRuntime) -> Result<(), Fail> {
+    let right = view([12, 2, 0], 3, 100)?;
+    let steps = [tried(4, 0), Stepped::Withdrew(4), Stepped::Done];
+    expect_session(&rt, rt.alloc(), [false; 5], right, &steps, &[])?;
+    // A try in flight is freed too.
+    expect_session(
+        &rt,
+        rt.alloc(),
+        [false; 5],
+        right,
+        &steps[..1],
+        &steps[1..2],
+    )
+}
+
+#[test]
+fn a_node_that_misses_gives_its_locks_back(rt: HostRuntime) -> Result<(), Fail> {
+    let far = view([4, 2, 107], 100, 10)?;
+    let steps = [
+        tried(2, 1),
+        tried(3, 0),
+        Stepped::Withdrew(3),
+        Stepped::GaveBack(2),
+        tried(4, 1),
+        tried(5, 1),
         Stepped::Done,
     ];
-    expect_steps(&rt, rt.alloc(), &mut one, &mut tokens, &mut first, &tried)?;
+    let freed = [Stepped::Unlocked(4), Stepped::Unlocked(5)];
+    expect_session(
+        &rt,
+        rt.alloc(),
+        [true, false, true, true, false],
+        far,
+        &steps,
+        &freed,
+    )
+}
+
+#[test]
+fn old_locks_go_before_the_next_round(rt: HostRuntime) -> Result<(), Fail> {
+    let mesh = mesh_of(rt.alloc(), &strip())?;
+    let mut tokens = words(rt.alloc(), [false, false, true, true, false])?;
+    let right = view([12, 2, 0], 3, 100)?;
+    let (mut session, mut pass) = seated(rt.alloc(), &mesh, &tokens, right)?;
+    let steps = [tried(4, 1), tried(5, 1), Stepped::Done];
+    expect_steps(
+        &rt,
+        rt.alloc(),
+        &mut session,
+        &mut tokens,
+        &mut pass,
+        &steps,
+    )?;
+    session.set_view(view([-4, 2, 0], 3, 100)?);
+    let steps = [
+        Stepped::Unlocked(4),
+        Stepped::Unlocked(5),
+        tried(2, 0),
+        Stepped::Withdrew(2),
+        Stepped::Done,
+    ];
+    expect_steps(
+        &rt,
+        rt.alloc(),
+        &mut session,
+        &mut tokens,
+        &mut pass,
+        &steps,
+    )?;
+    expect_freed(&rt, &mut session, &mut tokens, &mut pass, &[]);
     Ok(())
 }
