@@ -8,6 +8,3 @@ mod sessions;
 
 pub use session_model::Stepped;
 pub use sessions::Session;
-
-#[cfg(test)]
-mod tests;
