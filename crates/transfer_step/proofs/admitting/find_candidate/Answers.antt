@@ -1,3 +1,4 @@
+-- The test answers which patches are admissible.
 use Rattle.std.proofs.Common.{◌≡◌, ℕ, ◌-◌, List, ap, sym, ◌∙◌}
 use Rattle.tier_model.specs.Tiers.{pinned_bytes}
 use Rattle.transfer_step.specs.TurnWords.{told_of, may_come}

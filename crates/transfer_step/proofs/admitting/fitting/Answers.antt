@@ -1,3 +1,4 @@
+-- What fits is what fits beside the load.
 use Rattle.std.proofs.Common.{◌≡◌, ap, ◌∙◌, sym, arith}
 use Rattle.std.specs.Prelude.{slice_index}
 use Rattle.tier_model.specs.Tiers.{size}

@@ -1,3 +1,4 @@
+-- The candidate is sought where there is a place.
 use Rattle.std.proofs.Common.{◌≡◌, ap, ◌∙◌, length, arith}
 use Rattle.transfer_step.specs.TurnWords.{told_of}
 use Rattle.transfer_step.proofs.RuleSteps.{sought_there, sought_full}

@@ -1,3 +1,4 @@
+-- What the words and the tier ask, and the answer by the uses found.
 use Rattle.std.proofs.Common.{◌∙◌, arith}
 use Rattle.tier_model.specs.BodyLaws.{there_is_marked}
 use Rattle.transfer_step.specs.TurnWords.{misses_in}

@@ -1,3 +1,4 @@
+-- The victim is held and not pinned.
 use Rattle.std.proofs.Common.{sym, append-nil}
 use Rattle.transfer_step.specs.TurnWords.{misses_in}
 use Rattle.transfer_step.proofs.RuleSteps.{victim_of}

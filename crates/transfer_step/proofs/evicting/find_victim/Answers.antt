@@ -1,3 +1,4 @@
+-- The least that may leave is the victim.
 use Rattle.std.proofs.Common.{ap, sym, ◌∙◌}
 use Rattle.std.specs.Option.{option_and_then}
 use Rattle.tier_model.specs.Choices.{victim}

@@ -1,3 +1,4 @@
+-- Each answer of the fetch, against the rule.
 use Rattle.std.proofs.Common.{◌≡◌, ◌<◌, List, ℕ, length, ap, sym, subst, ◌∙◌}
 use Rattle.file_model.specs.Lists.{SeenBody}
 use Rattle.tier_model.specs.declared.turns.Abort.TheVariants as reasons

@@ -1,3 +1,4 @@
+-- A patch that comes has an even epoch below the last.
 use Rattle.std.proofs.Common.{arith}
 use Rattle.tier_model.specs.ComingLaws.{first_comes}
 use Rattle.tier_model.specs.TierLaws.{comes_within}

@@ -1,3 +1,4 @@
+-- Each return, against its rule.
 use Rattle.std.proofs.Common.{◌≡◌, ◌+◌, ◌<◌, ◌≤◌, Some, None, MatchOption, IfOk, ap, sym, subst, refl, ◌∙◌, append-nil}
 use Rattle.std.specs.Option.{option_and_then}
 use Rattle.tier_model.specs.declared.turns.Turn.TheVariants.{Reserve, Idle}

@@ -1,3 +1,4 @@
+-- What the turn keeps follows from its rule.
 use Rattle.std.proofs.Common.{◌≡◌, ◌++◌, IfOk, subst}
 use Rattle.tier_model.specs.Tiers.{TierState}
 use Rattle.tier_model.specs.Counts.{entries_of}

@@ -1,3 +1,4 @@
+-- The tier begins with the wishes where the versions differ.
 use Rattle.std.proofs.Common.{ap, sym, ◌∙◌}
 use Rattle.tier_model.specs.Tiers.{TierState}
 use Rattle.tier_model.specs.Changes.{renewed}

@@ -1,3 +1,4 @@
+-- What the turn keeps, from how it begins.
 use Rattle.std.proofs.Common.{◌≡◌, ◌≤◌, ◌++◌, ℕ, List, length, IfOk, MatchResult, subst, sym, ◌∙◌}
 use Rattle.view_outside.specs.Taken.{RisesAtMost}
 use Rattle.tier_model.specs.Tiers.{TierState}
