@@ -2,3 +2,4 @@ mod PassLaws
 mod PartLaws
 mod StepParts
 mod FinishParts
+mod TestLaws

@@ -8,3 +8,6 @@ mod sessions;
 
 pub use session_model::Stepped;
 pub use sessions::Session;
+
+#[cfg(test)]
+mod tests;
