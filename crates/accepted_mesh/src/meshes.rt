@@ -22,7 +22,8 @@ impl Model for Mesh {
 
     ghost view = { λ m. mesh_seen m.index m.graph m.root m.base_open };
 
-    ghost invariant = { λ m. IsMeshState m.index m.graph m.root × AreTotals m.index m.triangle_sum m.greatest_degree };
+    ghost invariant = { λ m.
+        IsMeshState m.index m.graph m.root × AreTotals m.index m.triangle_sum m.greatest_degree };
 }
 
 impl Mesh {

@@ -16,9 +16,12 @@ use patch_body::Body;
 /// Condition: at most 4294967295 * 65536 triangles were added before.
 pub fn add_triangles(chain: &mut EdgeChain, body: &Body) -> Result<(), NoMemory>
     requires { chain.old.count ≤ 4294967295 * 65536 }
-    ensures count { OnOk result (chain.new.count ≡ chain.old.count + length body.now.lists.corners) }
+    ensures count { OnOk result
+        (chain.new.count ≡ chain.old.count + length body.now.lists.corners) }
     ensures few { OnOk result (chain.new.count ≤ chain.old.count + 4294967295) }
-    ensures nets { OnOk result ((triangles : List Triangle) → IsNetOf triangles chain.old → IsNetOf (triangles ++ triangles_of body.now.lists) chain.new) }
+    ensures nets { OnOk result
+        ((triangles : List Triangle) → IsNetOf triangles chain.old
+        → IsNetOf (triangles ++ triangles_of body.now.lists) chain.new) }
 {
     for place in 0..body.triangle_count() {
         chain.add(body.triangle(place))?;

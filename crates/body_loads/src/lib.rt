@@ -22,7 +22,13 @@ pub use refusals::LoadRefusal;
 
 /// What is loaded of a file is what the file says, and no body of it has a fault.
 pub fn loads_give_the_files_bodies()
-    ensures bodies { (bytes : List ℕ) (file : FileLists) (patch : ℕ) → file_in bytes ≡ Ok file → body_at file.index bytes patch ≡ option_map Ok (slice_get file.bodies patch) }
-    ensures no_fault { (bytes : List ℕ) (file : FileLists) (patch : ℕ) (fault : FileFault) → file_in bytes ≡ Ok file → body_at file.index bytes patch ≡ Some (Err fault) → ⊥ }
-    ensures triangles { (bytes : List ℕ) (file : FileLists) (test : PatchField → Bool) (bodies : List SeenBody) → file_in bytes ≡ Ok file → AreBodiesAt file.index bytes (patches_where test file.index.fields) bodies → flat_map triangles_of (lists_of bodies) ≡ triangles_where test file.index.fields file.bodies }
+    ensures bodies { (bytes : List ℕ) (file : FileLists) (patch : ℕ) → file_in bytes ≡ Ok file
+        → body_at file.index bytes patch ≡ option_map Ok (slice_get file.bodies patch) }
+    ensures no_fault { (bytes : List ℕ) (file : FileLists) (patch : ℕ) (fault : FileFault)
+        → file_in bytes ≡ Ok file → body_at file.index bytes patch ≡ Some (Err fault) → ⊥ }
+    ensures triangles { (bytes : List ℕ) (file : FileLists) (test : PatchField → Bool)
+        (bodies : List SeenBody) → file_in bytes ≡ Ok file
+        → AreBodiesAt file.index bytes (patches_where test file.index.fields) bodies
+        → flat_map triangles_of (lists_of bodies)
+        ≡ triangles_where test file.index.fields file.bodies }
 {}

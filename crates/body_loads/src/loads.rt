@@ -34,7 +34,8 @@ pub fn load_body<S: Store>(
     ensures changed { IfErr result IsBodyChange }
     ensures store { OnlyRead ReadFault (S.files store.old) (S.files store.new)
         (S.faults store.old) (S.faults store.new) result }
-    ensures taken { IfOk result (λ _. S.taken store.new ≡ taken_after (S.taken store.old) (size_at index.now patch)) }
+    ensures taken { IfOk result
+        (λ _. S.taken store.new ≡ taken_after (S.taken store.old) (size_at index.now patch)) }
     ensures most { RisesAtMost (S.taken store.old) (S.taken store.new) (size_at index.now patch) }
     ensures cut { IfErr result (OnlyIf ReadFault
         (RisesBelow (S.taken store.old) (S.taken store.new) (size_at index.now patch))) }
@@ -61,14 +62,20 @@ pub fn load_bodies<S: Store>(
     ensures told { IfSome (file_bytes (S.files store.old) file) (λ bytes. MatchResult result
         (λ bodies. AreBodiesAt index.now bytes patches.now (map arc_value bodies.items))
         (RefusesLoad index.now bytes patches.now)) }
-    ensures patches { IfOk result (λ bodies. patches_of (map arc_value bodies.items) ≡ patches.now) }
-    ensures bodies { IfOk result (λ bodies. All (λ body. IsBodyOf index.now body.patch body) (map arc_value bodies.items)) }
+    ensures patches { IfOk result
+        (λ bodies. patches_of (map arc_value bodies.items) ≡ patches.now) }
+    ensures bodies { IfOk result
+        (λ bodies. All (λ body. IsBodyOf index.now body.patch body) (map arc_value bodies.items)) }
     ensures names { IfErr result (NamesOneOf patches.now) }
     ensures changed { IfErr result IsBodyChange }
     ensures store { OnlyRead ReadFault (S.files store.old) (S.files store.new)
         (S.faults store.old) (S.faults store.new) result }
-    ensures taken { IfOk result (λ _. S.taken store.new ≡ taken_after (S.taken store.old) (sizes_sum index.now patches.now)) }
-    ensures most { RisesAtMost (S.taken store.old) (S.taken store.new) (sizes_sum index.now patches.now) }
+    ensures taken { IfOk result
+        (λ _.
+        S.taken store.new
+        ≡ taken_after (S.taken store.old) (sizes_sum index.now patches.now)) }
+    ensures most { RisesAtMost (S.taken store.old) (S.taken store.new)
+        (sizes_sum index.now patches.now) }
     ensures cut { IfErr result (OnlyIf ReadFault
         (RisesBelow (S.taken store.old) (S.taken store.new) (sizes_sum index.now patches.now))) }
 {

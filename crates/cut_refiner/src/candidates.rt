@@ -55,8 +55,10 @@ impl Candidates {
 
     /// Takes out the one that is tried first.
     pub fn pop(&mut self) -> Option<Candidate>
-        ensures taken { MatchOption result (self.old.items ≡ []) (λ first. IsPermutation self.old.items (first ∷ self.new.items)) }
-        ensures first { MatchOption result (self.new.items ≡ []) (λ first. IsFirst first self.old.items) }
+        ensures taken { MatchOption result (self.old.items ≡ [])
+            (λ first. IsPermutation self.old.items (first ∷ self.new.items)) }
+        ensures first { MatchOption result (self.new.items ≡ [])
+            (λ first. IsFirst first self.old.items) }
         ensures room { self.new.room ≡ self.old.room }
     {
         self.heap.pop()

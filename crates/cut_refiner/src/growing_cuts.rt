@@ -56,8 +56,13 @@ fn incoming_counts(alloc: Global, mesh: &Mesh) -> Result<Vec<u32>, NoMemory>
 impl GrowingCut {
     /// The set of no nodes.
     pub fn empty(alloc: Global, mesh: &Mesh) -> Result<GrowingCut, NoMemory>
-        ensures none { IfOk result (λ growing. growing.in_cut.items ≡ replicate (length mesh.now.lists.index.nodes) false) }
-        ensures growing { IfOk result (λ growing. IsGrowingCut mesh.now.lists growing.in_cut.items growing.missing.items growing.size) }
+        ensures none { IfOk result
+            (λ growing.
+            growing.in_cut.items ≡ replicate (length mesh.now.lists.index.nodes) false) }
+        ensures growing { IfOk result
+            (λ growing.
+            IsGrowingCut mesh.now.lists growing.in_cut.items growing.missing.items
+            growing.size) }
     {
         let missing = incoming_counts(alloc, mesh)?;
         let in_cut = vec![in alloc; false; missing.len()]?;
@@ -71,8 +76,11 @@ impl GrowingCut {
     /// How many triangles lead out of the set with the node. Condition: the node isn't in the set, and
     /// its parents are.
     pub fn size_with(&self, mesh: &Mesh, node: u32) -> u64
-        requires { IsGrowing mesh.now.lists self.now.in_cut.items self.now.missing.items self.now.size node }
-        ensures { result ≡ frame_size (has (with_member self.now.in_cut.items node)) mesh.now.lists.index.fields }
+        requires { IsGrowing mesh.now.lists self.now.in_cut.items self.now.missing.items
+            self.now.size node }
+        ensures { result
+            ≡ frame_size (has (with_member self.now.in_cut.items node))
+            mesh.now.lists.index.fields }
     {
         let fields = mesh.index().fields();
         let _most = mesh.triangle_sum();

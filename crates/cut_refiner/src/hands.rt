@@ -16,9 +16,11 @@ pub fn go_on(
     lists: &mut CutLists,
 ) -> Option<u32>
     requires going { (rest : List ℕ) × IsGoing rules.now rest refinement.old }
-    requires lists { HaveRoom (length rules.now.mesh.index.nodes) (length rules.now.mesh.index.fields) lists.old }
+    requires lists { HaveRoom (length rules.now.mesh.index.nodes)
+        (length rules.now.mesh.index.fields) lists.old }
     ensures growing { refinement.new.growing ≡ refinement.old.growing }
-    ensures next { (rest : List ℕ) → IsGoing rules.now rest refinement.old → IsNext rules.now rest refinement.new result }
+    ensures next { (rest : List ℕ) → IsGoing rules.now rest refinement.old
+        → IsNext rules.now rest refinement.new result }
     ensures lists { AreLists rules.now refinement.new.growing.in_cut.items lists.new result }
 {
     match refinement.next(rules) {

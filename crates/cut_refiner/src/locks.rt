@@ -23,7 +23,12 @@ impl Model for Locks {
 
     ghost Value = { LockLists };
 
-    ghost view = { λ l. record { locked = l.locked.items; owed = drop l.given_back l.missed.items; room = min l.locked.capacity l.missed.capacity } };
+    ghost view = { λ l.
+        record {
+          locked = l.locked.items;
+          owed = drop l.given_back l.missed.items;
+          room = min l.locked.capacity l.missed.capacity;
+        } };
 }
 
 impl Locks {

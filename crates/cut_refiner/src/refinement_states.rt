@@ -25,8 +25,13 @@ pub struct RefinementState {
 impl RefinementState {
     /// The set of no nodes.
     fn empty(alloc: Global, rules: &RoundRules) -> Result<RefinementState, NoMemory>
-        ensures set { IfOk result (λ refinement. refinement.growing.in_cut.items ≡ replicate (length rules.now.mesh.index.nodes) false) }
-        ensures root { IfOk result (λ refinement. CanJoin rules.now (node_order rules.now) refinement rules.now.mesh.root) }
+        ensures set { IfOk result
+            (λ refinement.
+            refinement.growing.in_cut.items
+            ≡ replicate (length rules.now.mesh.index.nodes) false) }
+        ensures root { IfOk result
+            (λ refinement.
+            CanJoin rules.now (node_order rules.now) refinement rules.now.mesh.root) }
     {
         let mesh = rules.mesh();
         let growing = GrowingCut::empty(alloc, mesh)?;
@@ -40,8 +45,10 @@ impl RefinementState {
 
     /// The set of the root alone, before all other nodes.
     pub fn begin(alloc: Global, rules: &RoundRules) -> Result<RefinementState, NoMemory>
-        ensures set { IfOk result (λ refinement. refinement.growing.in_cut.items ≡ root_set rules.now) }
-        ensures going { IfOk result (λ refinement. IsGoing rules.now (node_order rules.now) refinement) }
+        ensures set { IfOk result
+            (λ refinement. refinement.growing.in_cut.items ≡ root_set rules.now) }
+        ensures going { IfOk result
+            (λ refinement. IsGoing rules.now (node_order rules.now) refinement) }
     {
         let mut refinement = RefinementState::empty(alloc, rules)?;
         let mesh = rules.mesh();
@@ -54,9 +61,13 @@ impl RefinementState {
     /// Puts the node into the set, out of which then so many triangles lead.
     pub fn join(&mut self, rules: &RoundRules, node: u32, size: u64)
         requires can { (rest : List ℕ) × CanJoin rules.now rest self.old node }
-        requires size { size ≡ frame_size (has (with_member self.old.growing.in_cut.items node)) rules.now.mesh.index.fields }
-        ensures set { self.new.growing.in_cut.items ≡ with_member self.old.growing.in_cut.items node }
-        ensures going { (rest : List ℕ) → CanJoin rules.now rest self.old node → IsGoing rules.now rest self.new }
+        requires size { size
+            ≡ frame_size (has (with_member self.old.growing.in_cut.items node))
+            rules.now.mesh.index.fields }
+        ensures set { self.new.growing.in_cut.items
+            ≡ with_member self.old.growing.in_cut.items node }
+        ensures going { (rest : List ℕ) → CanJoin rules.now rest self.old node
+            → IsGoing rules.now rest self.new }
     {
         let mesh = rules.mesh();
         self.growing.size = size;
@@ -71,14 +82,20 @@ impl RefinementState {
     /// where it is wanted and no sink.
     fn release(&mut self, rules: &RoundRules, node: u32)
         requires node { node < length rules.now.mesh.index.nodes }
-        requires counts { length self.old.growing.missing.items ≡ length rules.now.mesh.index.nodes }
+        requires counts { length self.old.growing.missing.items
+            ≡ length rules.now.mesh.index.nodes }
         requires missed { 0 < slice_index self.old.growing.missing.items node }
         requires room { length self.old.candidates.items < self.old.candidates.room }
-        ensures missing { self.new.growing.missing.items ≡ slice_set self.old.growing.missing.items node (slice_index self.old.growing.missing.items node - 1) }
+        ensures missing { self.new.growing.missing.items
+            ≡ slice_set self.old.growing.missing.items node
+            (slice_index self.old.growing.missing.items node - 1) }
         ensures set { self.new.growing.in_cut.items ≡ self.old.growing.in_cut.items }
         ensures size { self.new.growing.size ≡ self.old.growing.size }
         ensures room { self.old.candidates.room ≤ self.new.candidates.room }
-        ensures waiting { (rest : List ℕ) → IsWaiting rules.now rest self.old.growing.missing.items self.old.candidates.items → is_among rest node ≡ not (is_sink rules.now.mesh.index.fields node) → IsWaiting rules.now rest self.new.growing.missing.items self.new.candidates.items }
+        ensures waiting { (rest : List ℕ)
+            → IsWaiting rules.now rest self.old.growing.missing.items self.old.candidates.items
+            → is_among rest node ≡ not (is_sink rules.now.mesh.index.fields node)
+            → IsWaiting rules.now rest self.new.growing.missing.items self.new.candidates.items }
     {
         let mesh = rules.mesh();
         self.growing.missing[node as usize] -= 1;
@@ -92,7 +109,8 @@ impl RefinementState {
     pub fn next(&mut self, rules: &RoundRules) -> Option<u32>
         requires { (rest : List ℕ) × IsGoing rules.now rest self.old }
         ensures growing { self.new.growing ≡ self.old.growing }
-        ensures next { (rest : List ℕ) → IsGoing rules.now rest self.old → IsNext rules.now rest self.new result }
+        ensures next { (rest : List ℕ) → IsGoing rules.now rest self.old
+            → IsNext rules.now rest self.new result }
     {
         let mesh = rules.mesh();
         while let Some(candidate) = self.candidates.pop() {

@@ -58,7 +58,11 @@ impl<'m> Refiner<'m> {
         want: &W,
         limit: u32,
     ) -> Result<Refiner<'m>, NoMemory>
-        ensures rules { IfOk result (λ r. r.rules ≡ rules_of mesh.now.lists (W.scores want.now mesh.now.lists) (W.least want.now) limit) }
+        ensures rules { IfOk result
+            (λ r.
+            r.rules
+            ≡ rules_of mesh.now.lists (W.scores want.now mesh.now.lists)
+            (W.least want.now) limit) }
         ensures tries { IfOk result (λ r. r.tries ≡ []) }
         ensures owed { IfOk result (λ r. r.owed ≡ []) }
     {
@@ -88,7 +92,8 @@ impl<'m> Refiner<'m> {
         ensures asked { result ≡ pending_ask self.now }
         ensures whole { result ≡ Done → IsWhole (round_state self.now) }
         // Where a patch is asked for, fewer were tried than there are.
-        ensures room { (patch : ℕ) → result ≡ Lock patch → length self.now.tries < length self.now.rules.mesh.index.fields }
+        ensures room { (patch : ℕ) → result ≡ Lock patch
+            → length self.now.tries < length self.now.rules.mesh.index.fields }
     {
         if let Some(patch) = self.locks.first_owed() {
             return Ask::GiveBack(patch);
@@ -102,7 +107,8 @@ impl<'m> Refiner<'m> {
     /// Takes the answer to the try that is asked for: its epoch. Condition: `ask` gives `Lock`.
     pub fn tell(&mut self, epoch: u32)
         requires { (patch : ℕ) × (pending_ask self.old ≡ Lock patch) }
-        ensures { (patch : ℕ) → pending_ask self.old ≡ Lock patch → self.new ≡ after_answer self.old patch epoch }
+        ensures { (patch : ℕ) → pending_ask self.old ≡ Lock patch
+            → self.new ≡ after_answer self.old patch epoch }
     {
         let node = match self.hand {
             Some(node) => node,
@@ -146,7 +152,8 @@ impl<'m> Refiner<'m> {
     pub fn cut(&self) -> &[u32]
         requires { pending_ask self.now ≡ Done }
         ensures nodes { result.now ≡ cut_of self.now }
-        ensures cut { IsCut self.now.rules.mesh.index.fields self.now.rules.mesh.root (has (round_state self.now).set) }
+        ensures cut { IsCut self.now.rules.mesh.index.fields self.now.rules.mesh.root
+            (has (round_state self.now).set) }
         ensures few { length result.now ≤ MOST_NODES }
     {
         &self.lists.nodes
@@ -156,7 +163,10 @@ impl<'m> Refiner<'m> {
     pub fn patches(&self) -> &[u32]
         requires { pending_ask self.now ≡ Done }
         ensures patches { result.now ≡ cut_patches self.now }
-        ensures boundary { (file : FileLists) → IsAccepted file self.now.rules.mesh.root → file.index ≡ self.now.rules.mesh.index → HaveOneNet (frame_of_set file (has (round_state self.now).set)) (triangles_out_of file self.now.rules.mesh.root) }
+        ensures boundary { (file : FileLists) → IsAccepted file self.now.rules.mesh.root
+            → file.index ≡ self.now.rules.mesh.index
+            → HaveOneNet (frame_of_set file (has (round_state self.now).set))
+            (triangles_out_of file self.now.rules.mesh.root) }
         ensures few { length result.now ≤ MOST_PATCHES }
     {
         &self.lists.patches

@@ -24,9 +24,22 @@ impl<'m> Model for RoundRules<'m> {
 
     ghost Value = { Rules };
 
-    ghost view = { λ r. record { mesh = r.mesh.now.lists; scores = r.scores.items; threshold = r.threshold; limit = r.limit } };
+    ghost view = { λ r.
+        record {
+          mesh = r.mesh.now.lists;
+          scores = r.scores.items;
+          threshold = r.threshold;
+          limit = r.limit;
+        } };
 
-    ghost invariant = { λ r. AreRules (record { mesh = r.mesh.now.lists; scores = r.scores.items; threshold = r.threshold; limit = r.limit }) };
+    ghost invariant = { λ r.
+        AreRules
+        (record {
+          mesh = r.mesh.now.lists;
+          scores = r.scores.items;
+          threshold = r.threshold;
+          limit = r.limit;
+        }) };
 }
 
 impl<'m> RoundRules<'m> {
@@ -43,7 +56,11 @@ impl<'m> RoundRules<'m> {
         want: &W,
         limit: u32,
     ) -> Result<RoundRules<'m>, NoMemory>
-        ensures { IfOk result (λ r. r ≡ rules_of mesh.now.lists (W.scores want.now mesh.now.lists) (W.least want.now) limit) }
+        ensures { IfOk result
+            (λ r.
+            r
+            ≡ rules_of mesh.now.lists (W.scores want.now mesh.now.lists)
+            (W.least want.now) limit) }
     {
         let scores = scores_of(alloc, mesh, want)?;
         let threshold = want.threshold();

@@ -34,7 +34,8 @@ impl AllNodeSums {
         requires node { node < length self.old.node_sums.items }
         requires sums { IsSummed (all_sums_of self.old) }
         requires left { IsReady node self.old.node_sums.items }
-        ensures { OnOk result (TakesAt side node body.now.lists (all_sums_of self.old) (all_sums_of self.new)) }
+        ensures { OnOk result
+            (TakesAt side node body.now.lists (all_sums_of self.old) (all_sums_of self.new)) }
     {
         let _patch = body.patch();
         let sums_at = &mut self.node_sums[node as usize];

@@ -30,9 +30,24 @@ impl Model for Checker {
 
     ghost Value = { CheckerSeen };
 
-    ghost view = { λ c. record { index = c.index; graph = c.graph; next = c.next; base = c.base; all_sums = all_sums_of c.all_sums } };
+    ghost view = { λ c.
+        record {
+          index = c.index;
+          graph = c.graph;
+          next = c.next;
+          base = c.base;
+          all_sums = all_sums_of c.all_sums;
+        } };
 
-    ghost invariant = { λ c. IsChecker (record { index = c.index; graph = c.graph; next = c.next; base = c.base; all_sums = all_sums_of c.all_sums }) };
+    ghost invariant = { λ c.
+        IsChecker
+        (record {
+          index = c.index;
+          graph = c.graph;
+          next = c.next;
+          base = c.base;
+          all_sums = all_sums_of c.all_sums;
+        }) };
 }
 
 impl Checker {
@@ -49,7 +64,8 @@ impl Checker {
     pub fn begin(alloc: Global, index: Index) -> Result<Checker, NoMemory>
         ensures index { IfOk result (λ checker. checker.index ≡ index) }
         ensures next { IfOk result (λ checker. checker.next ≡ 0) }
-        ensures follows { IfOk result (λ checker. (bodies : List BodyLists) → Follows checker bodies) }
+        ensures follows { IfOk result
+            (λ checker. (bodies : List BodyLists) → Follows checker bodies) }
     {
         let _nodes = index.node_count();
         let graph = MeshGraph::of(alloc, index.nodes(), index.fields())?;
@@ -69,7 +85,10 @@ impl Checker {
         requires { self.next < length self.index.fields }
         ensures index { IfOk result (λ checker. checker.index ≡ self.index) }
         ensures next { IfOk result (λ checker. checker.next ≡ self.next + 1) }
-        ensures follows { IfOk result (λ checker. (bodies : List BodyLists) → Follows self bodies → slice_get bodies self.next ≡ Some body.now.lists → Follows checker bodies) }
+        ensures follows { IfOk result
+            (λ checker.
+            (bodies : List BodyLists) → Follows self bodies
+            → slice_get bodies self.next ≡ Some body.now.lists → Follows checker bodies) }
     {
         let Checker {
             alloc,
@@ -110,7 +129,8 @@ impl Checker {
 
     /// The number of open nodes: inner ones of whose patches some but not all bodies were added.
     pub fn open_nodes(&self) -> u32
-        ensures { result ≡ open_nodes self.now.index.fields self.now.next (length self.now.index.nodes) }
+        ensures { result
+            ≡ open_nodes self.now.index.fields self.now.next (length self.now.index.nodes) }
     {
         self.all_sums.open_nodes
     }
@@ -118,7 +138,8 @@ impl Checker {
     /// How many pairs of points the checker keeps: for each open node those whose edges don't cancel in
     /// the added bodies of the patches that lead to it, and of those that lead from it.
     pub fn kept_pairs(&self) -> u64
-        ensures { (bodies : List BodyLists) → Follows self.now bodies → KeepsPairs self.now.index self.now.next bodies result }
+        ensures { (bodies : List BodyLists) → Follows self.now bodies
+            → KeepsPairs self.now.index self.now.next bodies result }
     {
         self.all_sums.kept_pairs
     }
@@ -126,10 +147,16 @@ impl Checker {
     /// The mesh, or the first fault. It takes no memory. Condition: all bodies were added.
     pub fn finish(self) -> Result<Mesh, DagFault>
         requires { self.next ≡ length self.index.fields }
-        ensures verdict { (bodies : List BodyLists) → Follows self bodies → MatchResult result (λ mesh. IsAccepted (file_with self.index bodies) mesh.lists.root) (IsMeshFault (file_with self.index bodies)) }
+        ensures verdict { (bodies : List BodyLists) → Follows self bodies
+            → MatchResult result (λ mesh. IsAccepted (file_with self.index bodies) mesh.lists.root)
+            (IsMeshFault (file_with self.index bodies)) }
         ensures index { IfOk result (λ mesh. mesh.lists.index ≡ self.index) }
         ensures facts { IfOk result (λ mesh. IsMesh mesh.lists) }
-        ensures base { (bodies : List BodyLists) → Follows self bodies → IfOk result (λ mesh. HasOpenPairs (triangles_out_of (file_with self.index bodies) mesh.lists.root) mesh.base_open) }
+        ensures base { (bodies : List BodyLists) → Follows self bodies
+            → IfOk result
+            (λ mesh.
+            HasOpenPairs (triangles_out_of (file_with self.index bodies) mesh.lists.root)
+            mesh.base_open) }
     {
         let Checker {
             alloc: _,

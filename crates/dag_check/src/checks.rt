@@ -27,14 +27,17 @@ fn read_bodies<S: Store>(
     file: u32,
 ) -> Result<Checker, ReadRefusal>
     requires { HasFile (S.files store.old) file }
-    ensures told { IfSome (file_bytes (S.files store.old) file) (λ bytes. FollowsBodies result (bodies_behind index bytes)) }
+    ensures told { IfSome (file_bytes (S.files store.old) file)
+        (λ bytes. FollowsBodies result (bodies_behind index bytes)) }
     ensures index { IfOk result (λ checker. checker.index ≡ index) }
     ensures all { IfOk result (λ checker. checker.next ≡ length index.fields) }
     ensures store { OnlyRead reads.ReadFault (S.files store.old) (S.files store.new)
         (S.faults store.old) (S.faults store.new) result }
     ensures taken { IfOk result (λ _. S.taken store.new
         ≡ taken_after (S.taken store.old) (bodies_size index.version index.fields)) }
-    ensures cut { IfErr result (OnlyIf reads.ReadFault (RisesAtMost (S.taken store.old) (S.taken store.new)
+    ensures cut { IfErr result
+        (OnlyIf reads.ReadFault
+        (RisesAtMost (S.taken store.old) (S.taken store.new)
         (bodies_size index.version index.fields))) }
 {
     let patches = index.patch_count();
@@ -54,8 +57,10 @@ fn read_rest<S: Store>(
     file: u32,
 ) -> Result<Checker, ReadRefusal>
     requires file { HasFile (S.files store.old) file }
-    requires told { IfSome (file_bytes (S.files store.old) file) (λ bytes. index_in bytes ≡ Ok index) }
-    ensures told { IfSome (file_bytes (S.files store.old) file) (λ bytes. FollowsFile result (file_in bytes)) }
+    requires told { IfSome (file_bytes (S.files store.old) file)
+        (λ bytes. index_in bytes ≡ Ok index) }
+    ensures told { IfSome (file_bytes (S.files store.old) file)
+        (λ bytes. FollowsFile result (file_in bytes)) }
     ensures bytes { IfOk result (λ _. TellsBytes (S.files store.old) file) }
     ensures index { IfOk result (λ checker. checker.index ≡ index) }
     ensures all { IfOk result (λ checker. checker.next ≡ length index.fields) }
@@ -63,7 +68,9 @@ fn read_rest<S: Store>(
         (S.faults store.old) (S.faults store.new) result }
     ensures taken { IfOk result (λ _. S.taken store.new
         ≡ taken_after (S.taken store.old) (bodies_size index.version index.fields)) }
-    ensures cut { IfErr result (OnlyIf reads.ReadFault (RisesAtMost (S.taken store.old) (S.taken store.new)
+    ensures cut { IfErr result
+        (OnlyIf reads.ReadFault
+        (RisesAtMost (S.taken store.old) (S.taken store.new)
         (bodies_size index.version index.fields))) }
 {
     let checker = read_bodies(alloc, index, store, file)?;
@@ -84,7 +91,8 @@ pub fn check<S: Store>(
     file: u32,
 ) -> Result<Mesh, CheckRefusal>
     requires file { HasFile (S.files store.old) file }
-    requires told { IfSome (file_bytes (S.files store.old) file) (λ bytes. index_in bytes ≡ Ok index) }
+    requires told { IfSome (file_bytes (S.files store.old) file)
+        (λ bytes. index_in bytes ≡ Ok index) }
     ensures told { IfSome (file_bytes (S.files store.old) file) (λ bytes. Checks bytes result) }
     ensures index { IfOk result (λ mesh. mesh.lists.index ≡ index) }
     ensures facts { IfOk result (λ mesh. IsMesh mesh.lists) }
@@ -92,7 +100,9 @@ pub fn check<S: Store>(
         (S.faults store.old) (S.faults store.new) result }
     ensures taken { IfOk result (λ _. S.taken store.new
         ≡ taken_after (S.taken store.old) (bodies_size index.version index.fields)) }
-    ensures cut { IfErr result (OnlyIf checks.ReadFault (RisesAtMost (S.taken store.old) (S.taken store.new)
+    ensures cut { IfErr result
+        (OnlyIf checks.ReadFault
+        (RisesAtMost (S.taken store.old) (S.taken store.new)
         (bodies_size index.version index.fields))) }
 {
     let checker = read_rest(alloc, index, store, file)?;

@@ -17,7 +17,8 @@ use std::alloc::Global;
 fn is_inner_node(graph: &MeshGraph, node: u32) -> bool
     requires incoming { node < length graph.now.incoming }
     requires outgoing { node < length graph.now.outgoing }
-    ensures { (index : IndexLists) → IsGraphOf index graph.now → result ≡ is_inner index.fields node }
+    ensures { (index : IndexLists) → IsGraphOf index graph.now
+        → result ≡ is_inner index.fields node }
 {
     !(graph.is_root(node) || graph.is_sink(node))
 }

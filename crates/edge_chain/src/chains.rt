@@ -55,7 +55,9 @@ impl EdgeChain {
         requires area { is_flat_triangle triangle ≡ false }
         requires room { self.old.count < 2 ^ 60 }
         ensures added { OnOk result (Adds triangle self.old self.new) }
-        ensures nets { OnOk result ((triangles : List Triangle) → IsNetOf triangles self.old → IsNetOf (triangles ++ triangle ∷ []) self.new) }
+        ensures nets { OnOk result
+            ((triangles : List Triangle) → IsNetOf triangles self.old
+            → IsNetOf (triangles ++ triangle ∷ []) self.new) }
         ensures unchanged { OnErr result (self.new ≡ self.old) }
     {
         let ab = DirectedEdge::between(triangle.a, triangle.b);
@@ -79,7 +81,8 @@ impl EdgeChain {
     /// The number of pairs whose edges don't cancel.
     pub fn open_edges(&self) -> u64
         ensures pairs { result ≡ length self.now.entries }
-        ensures nets { (triangles : List Triangle) → IsNetOf triangles self.now → AreOpen triangles (keys_of self.now.entries) }
+        ensures nets { (triangles : List Triangle) → IsNetOf triangles self.now
+            → AreOpen triangles (keys_of self.now.entries) }
     {
         self.sums.len() as u64
     }
@@ -88,7 +91,8 @@ impl EdgeChain {
     pub fn equals(&self, other: &EdgeChain) -> bool
         ensures entries { IsTrue result ↔ (self.now.entries ≡ other.now.entries) }
         ensures pairs { IsTrue result ↔ HoldSame self.now.entries other.now.entries }
-        ensures nets { (here there : List Triangle) → IsNetOf here self.now → IsNetOf there other.now → IsTrue result ↔ HaveOneNet here there }
+        ensures nets { (here there : List Triangle) → IsNetOf here self.now
+            → IsNetOf there other.now → IsTrue result ↔ HaveOneNet here there }
     {
         first_gap(&self.sums, &other.sums).is_none()
     }
@@ -97,8 +101,12 @@ impl EdgeChain {
     pub fn first_difference(&self, other: &EdgeChain) -> Option<Difference>
         ensures none { (result ≡ None) ↔ (self.now.entries ≡ other.now.entries) }
         ensures least { IfSome result (IsFirstDifference self.now.entries other.now.entries) }
-        ensures one_net { (here there : List Triangle) → IsNetOf here self.now → IsNetOf there other.now → (result ≡ None) ↔ HaveOneNet here there }
-        ensures nets { IfSome result (λ difference. (here there : List Triangle) → IsNetOf here self.now → IsNetOf there other.now → IsFirstNetDifference here there difference) }
+        ensures one_net { (here there : List Triangle) → IsNetOf here self.now
+            → IsNetOf there other.now → (result ≡ None) ↔ HaveOneNet here there }
+        ensures nets { IfSome result
+            (λ difference.
+            (here there : List Triangle) → IsNetOf here self.now → IsNetOf there other.now
+            → IsFirstNetDifference here there difference) }
     {
         first_gap(&self.sums, &other.sums)
     }

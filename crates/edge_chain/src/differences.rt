@@ -39,7 +39,10 @@ impl Difference {
 
 // What differs at the lesser of two edges, where each is the least of its map.
 fn gap_between(ours: (&Edge, &i64), theirs: (&Edge, &i64)) -> Option<Difference>
-    ensures { result ≡ option_map difference_of (gap_by edge_cmp (edge_cmp ours.entry.0.now theirs.entry.0.now) (deref_pair ours.entry) (deref_pair theirs.entry) None) }
+    ensures { result
+        ≡ option_map difference_of
+        (gap_by edge_cmp (edge_cmp ours.entry.0.now theirs.entry.0.now) (deref_pair ours.entry)
+        (deref_pair theirs.entry) None) }
 {
     let (edge, here) = ours;
     let (other, there) = theirs;
@@ -53,7 +56,8 @@ fn gap_between(ours: (&Edge, &i64), theirs: (&Edge, &i64)) -> Option<Difference>
 
 /// The least edge whose sums differ.
 pub fn first_gap(here: &Sums, there: &Sums) -> Option<Difference>
-    ensures { result ≡ option_map difference_of (gap_of edge_cmp here.now.entries there.now.entries) }
+    ensures { result
+        ≡ option_map difference_of (gap_of edge_cmp here.now.entries there.now.entries) }
 {
     let mut ours = here.iter();
     let mut theirs = there.iter();

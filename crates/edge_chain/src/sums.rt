@@ -39,9 +39,13 @@ pub fn tidy(sums: &mut Sums, edge: Edge)
 /// Adds the directed edge's sign to its edge's sum, and tells whether that is 0 then.
 fn turn_sum(sums: &mut Sums, directed: DirectedEdge) -> bool
     requires ordered { IsOrdered edge_cmp sums.old }
-    requires fits { IfSome (sum_of sums.old directed.edge) (λ sum. FitsSigned w64 (sum +ℤ directed.sign)) }
-    ensures turned { HasSums sums.new (with_sum (sum_of sums.old) directed.edge (signed_sum directed (sum_of sums.old directed.edge))) }
-    ensures zero { result ≡ option_eq int_eq (signed_sum directed (sum_of sums.old directed.edge)) (Some (pos 0)) }
+    requires fits { IfSome (sum_of sums.old directed.edge)
+        (λ sum. FitsSigned w64 (sum +ℤ directed.sign)) }
+    ensures turned { HasSums sums.new
+        (with_sum (sum_of sums.old) directed.edge
+        (signed_sum directed (sum_of sums.old directed.edge))) }
+    ensures zero { result
+        ≡ option_eq int_eq (signed_sum directed (sum_of sums.old directed.edge)) (Some (pos 0)) }
 {
     let Some(sum) = sums.get_mut(&directed.edge) else {
         return false;
@@ -53,7 +57,8 @@ fn turn_sum(sums: &mut Sums, directed: DirectedEdge) -> bool
 /// Adds the directed edge to its edge's sum, and takes the edge out where that is 0 then.
 pub fn raise(sums: &mut Sums, directed: DirectedEdge)
     requires ordered { IsOrdered edge_cmp sums.old }
-    requires fits { IfSome (sum_of sums.old directed.edge) (λ sum. FitsSigned w64 (sum +ℤ directed.sign)) }
+    requires fits { IfSome (sum_of sums.old directed.edge)
+        (λ sum. FitsSigned w64 (sum +ℤ directed.sign)) }
     ensures { HasSums sums.new (sums_with_edge (sum_of sums.old) directed) }
 {
     if turn_sum(sums, directed) {
@@ -65,7 +70,8 @@ pub fn raise(sums: &mut Sums, directed: DirectedEdge)
 fn place_both(sums: &mut Sums, first: Edge, second: Edge) -> Result<(), NoMemory>
     requires ordered { IsOrdered edge_cmp sums.old }
     requires tidy { sum_of sums.old first ≡ unless_zero (sum_of sums.old first) }
-    ensures placed { OnOk result (HasSums sums.new (sums_with_place (sums_with_place (sum_of sums.old) first) second)) }
+    ensures placed { OnOk result
+        (HasSums sums.new (sums_with_place (sums_with_place (sum_of sums.old) first) second)) }
     ensures unplaced { OnErr result (HasSums sums.new (sum_of sums.old)) }
 {
     place(sums, first)?;
@@ -83,7 +89,10 @@ pub fn place_each(sums: &mut Sums, first: Edge, second: Edge, third: Edge) -> Re
     requires ordered { IsOrdered edge_cmp sums.old }
     requires apart { is_at_edge first second ≡ false }
     requires tidy { (edge : Edge) → sum_of sums.old edge ≡ unless_zero (sum_of sums.old edge) }
-    ensures placed { OnOk result (HasSums sums.new (sums_with_place (sums_with_place (sums_with_place (sum_of sums.old) first) second) third)) }
+    ensures placed { OnOk result
+        (HasSums sums.new
+        (sums_with_place (sums_with_place (sums_with_place (sum_of sums.old) first) second)
+        third)) }
     ensures unplaced { OnErr result (HasSums sums.new (sum_of sums.old)) }
 {
     place(sums, first)?;

@@ -29,11 +29,13 @@ impl Model for View {
 
     ghost Value = { ViewSeen };
 
-    ghost view = { λ v. record { eye = v.eye; focal = v.focal; threshold = v.threshold; limit = v.limit } };
+    ghost view = { λ v.
+        record { eye = v.eye; focal = v.focal; threshold = v.threshold; limit = v.limit } };
 
     ghost invariant = { λ v. IsTrue (is_view v.eye v.focal v.threshold) };
 
-    ghost inverse = { λ v. record { eye = v.eye; focal = v.focal; threshold = v.threshold; limit = v.limit } };
+    ghost inverse = { λ v.
+        record { eye = v.eye; focal = v.focal; threshold = v.threshold; limit = v.limit } };
 }
 
 // Whether the coordinate is in an eye's range.

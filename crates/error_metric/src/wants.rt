@@ -26,8 +26,10 @@ pub trait Want {
         ensures { result ≡ least self.now };
 
     // One score a node,
-    ghost as_many: { (want : Self) (mesh : MeshLists) → length (scores want mesh) ≡ length mesh.index.nodes };
+    ghost as_many: { (want : Self) (mesh : MeshLists)
+        → length (scores want mesh) ≡ length mesh.index.nodes };
 
     // and none above its parents'.
-    ghost falls: { (want : Self) (mesh : MeshLists) (limit : ℕ) → IsMesh mesh → FallsAlong (rules_of mesh (scores want mesh) (least want) limit) };
+    ghost falls: { (want : Self) (mesh : MeshLists) (limit : ℕ) → IsMesh mesh
+        → FallsAlong (rules_of mesh (scores want mesh) (least want) limit) };
 }

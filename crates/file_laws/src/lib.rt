@@ -17,30 +17,36 @@ ghost use Rattle.file_laws.specs.Appended.{IsLasting};
 /// Reading a string of bytes from left to right gives a file exactly where the string is the patch
 /// file of what was read.
 pub fn reading_is_exact()
-    ensures { (file : FileLists) (bytes : List ℕ) → IsBytes bytes → (file_in bytes ≡ Ok file) ↔ IsPatchFile file bytes }
+    ensures { (file : FileLists) (bytes : List ℕ) → IsBytes bytes
+        → (file_in bytes ≡ Ok file) ↔ IsPatchFile file bytes }
 {}
 
 /// A string is the patch file of at most one version with its nodes, fields and bodies.
 pub fn string_says_one_file()
-    ensures { (one other : FileLists) (bytes : List ℕ) → IsPatchFile one bytes → IsPatchFile other bytes → one ≡ other }
+    ensures { (one other : FileLists) (bytes : List ℕ) → IsPatchFile one bytes
+        → IsPatchFile other bytes → one ≡ other }
 {}
 
 /// A version with its nodes, fields and bodies has at most one string.
 pub fn file_has_one_string()
-    ensures { (file : FileLists) (xs ys : List ℕ) → IsPatchFile file xs → IsPatchFile file ys → xs ≡ ys }
+    ensures { (file : FileLists) (xs ys : List ℕ) → IsPatchFile file xs → IsPatchFile file ys
+        → xs ≡ ys }
 {}
 
 /// A string that ends too early is told with its own length.
 pub fn truncated_tells_the_length()
-    ensures { (bytes : List ℕ) (end : ℕ) → file_in bytes ≡ Err (Truncated end) → end ≡ length bytes }
+    ensures { (bytes : List ℕ) (end : ℕ) → file_in bytes ≡ Err (Truncated end)
+        → end ≡ length bytes }
 {}
 
 /// Any other first fault of a string stays the first one whatever bytes follow.
 pub fn fault_stays_whatever_follows()
-    ensures { (bytes more : List ℕ) (fault : FileFault) → file_in bytes ≡ Err fault → IsLasting fault → file_in (bytes ++ more) ≡ Err fault }
+    ensures { (bytes more : List ℕ) (fault : FileFault) → file_in bytes ≡ Err fault
+        → IsLasting fault → file_in (bytes ++ more) ≡ Err fault }
 {}
 
 /// Strings of one length that are the same number are equal.
 pub fn number_has_one_string()
-    ensures { (w : ℕ) (xs ys : List ℕ) → IsBytes xs → IsBytes ys → length xs ≡ w → length ys ≡ w → number_in w xs ≡ number_in w ys → xs ≡ ys }
+    ensures { (w : ℕ) (xs ys : List ℕ) → IsBytes xs → IsBytes ys → length xs ≡ w → length ys ≡ w
+        → number_in w xs ≡ number_in w ys → xs ≡ ys }
 {}

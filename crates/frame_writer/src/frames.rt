@@ -33,8 +33,11 @@ fn write_head(
     out: &mut Vec<u8>,
 ) -> Result<(), NoMemory>
     // The tries aren't told in this line.
-    ensures ok { OnOk result ((bodies : List SeenBody) → IsNetOf (triangles_in bodies) chain.now → Adds out.old.items out.new.items
-        (head_line (length chain.now.entries) (frame_of session number cut.now [] patches.now bodies))) }
+    ensures ok { OnOk result
+        ((bodies : List SeenBody) → IsNetOf (triangles_in bodies) chain.now
+        → Adds out.old.items out.new.items
+        (head_line (length chain.now.entries)
+        (frame_of session number cut.now [] patches.now bodies))) }
     ensures err { OnErr result (Begins out.old.items out.new.items) }
 {
     let counts = [

@@ -29,7 +29,8 @@ pub fn link(
 ) -> Result<Chains, NoMemory>
     requires ends { HaveNodes side nodes fields.now }
     requires count { length fields.now ≤ MOST_PATCHES }
-    ensures linked { IfOk result (λ chains. AreLinked side fields.now 0 chains.first.items chains.next.items) }
+    ensures linked { IfOk result
+        (λ chains. AreLinked side fields.now 0 chains.first.items chains.next.items) }
     ensures as_many { IfOk result (λ chains. length chains.first.items ≡ nodes) }
 {
     let mut first = blank_list(alloc, nodes)?;
@@ -51,7 +52,9 @@ pub fn push_chain(
     start: Option<u32>,
 ) -> Result<(), NoMemory>
     requires { (chain : List ℕ) × IsChain next.now start chain }
-    ensures { OnOk result ((chain : List ℕ) → IsChain next.now start chain → patches.new.items ≡ patches.old.items ++ chain) }
+    ensures { OnOk result
+        ((chain : List ℕ) → IsChain next.now start chain
+        → patches.new.items ≡ patches.old.items ++ chain) }
 {
     let mut at = start;
     while let Some(patch) = at {

@@ -34,7 +34,13 @@ impl Model for MeshGraph {
 
     ghost Value = { GraphSeen };
 
-    ghost view = { λ g. record { incoming = g.incoming; outgoing = g.outgoing; levels = g.levels.items; verdict = g.verdict } };
+    ghost view = { λ g.
+        record {
+          incoming = g.incoming;
+          outgoing = g.outgoing;
+          levels = g.levels.items;
+          verdict = g.verdict;
+        } };
 }
 
 impl MeshGraph {
@@ -45,7 +51,8 @@ impl MeshGraph {
         requires patch_count { IsTrue (is_patch_count (length fields.now)) }
         requires nodes { IsTrue (list_all is_node nodes.now) }
         requires fields { IsTrue (list_all (is_field (length nodes.now)) fields.now) }
-        ensures { IfOk result (λ graph. (version : ℕ) → IsGraphOf (index_of version nodes.now fields.now) graph) }
+        ensures { IfOk result
+            (λ graph. (version : ℕ) → IsGraphOf (index_of version nodes.now fields.now) graph) }
     {
         let incoming = Adjacency::of(alloc, Side::Incoming, nodes.len(), fields)?;
         let outgoing = Adjacency::of(alloc, Side::Outgoing, nodes.len(), fields)?;
@@ -95,7 +102,8 @@ impl MeshGraph {
     pub fn is_root(&self, node: u32) -> bool
         requires { node < length self.now.incoming }
         ensures seen { result ≡ is_bare_at self.now.incoming node }
-        ensures root { (index : IndexLists) → IsGraphOf index self.now → result ≡ is_root_of index.fields node }
+        ensures root { (index : IndexLists) → IsGraphOf index self.now
+            → result ≡ is_root_of index.fields node }
     {
         self.incoming.is_bare(node)
     }
@@ -104,7 +112,8 @@ impl MeshGraph {
     pub fn is_sink(&self, node: u32) -> bool
         requires { node < length self.now.outgoing }
         ensures seen { result ≡ is_bare_at self.now.outgoing node }
-        ensures sink { (index : IndexLists) → IsGraphOf index self.now → result ≡ is_sink_of index.fields node }
+        ensures sink { (index : IndexLists) → IsGraphOf index self.now
+            → result ≡ is_sink_of index.fields node }
     {
         self.outgoing.is_bare(node)
     }
@@ -119,6 +128,8 @@ impl MeshGraph {
 
 /// A node has one level at most, and one with a level is grounded.
 pub fn levels_are_unique()
-    ensures one { (fields : List PatchField) (v a b : ℕ) → IsLevel fields v a → IsLevel fields v b → a ≡ b }
-    ensures grounded { (fields : List PatchField) (v level : ℕ) → IsLevel fields v level → IsGrounded fields v }
+    ensures one { (fields : List PatchField) (v a b : ℕ) → IsLevel fields v a → IsLevel fields v b
+        → a ≡ b }
+    ensures grounded { (fields : List PatchField) (v level : ℕ) → IsLevel fields v level
+        → IsGrounded fields v }
 {}

@@ -18,7 +18,8 @@ use std::alloc::Global;
 fn tail_level(fields: &[PatchField], levels: &[Option<u32>], patch: u32) -> Option<u32>
     requires patch { patch < length fields.now }
     requires ends { HaveNodes Outgoing (length levels.now) fields.now }
-    ensures some { (level : ℕ) → result ≡ Some level → HasTailLevel fields.now levels.now patch level }
+    ensures some { (level : ℕ) → result ≡ Some level
+        → HasTailLevel fields.now levels.now patch level }
     ensures none { result ≡ None → IsOpen fields.now levels.now patch }
 {
     levels[fields[patch as usize].tail as usize]
@@ -28,7 +29,8 @@ fn tail_level(fields: &[PatchField], levels: &[Option<u32>], patch: u32) -> Opti
 fn first_open(fields: &[PatchField], levels: &[Option<u32>], patches: &[u32], from: usize) -> usize
     requires patches { All (λ patch. patch < length fields.now) patches.now }
     requires ends { HaveNodes Outgoing (length levels.now) fields.now }
-    ensures { (patch : ℕ) → slice_get patches.now result ≡ Some patch → IsOpen fields.now levels.now patch }
+    ensures { (patch : ℕ) → slice_get patches.now result ≡ Some patch
+        → IsOpen fields.now levels.now patch }
 {
     let mut place = from;
     while place < patches.len() {
@@ -47,7 +49,9 @@ fn level_over(fields: &[PatchField], levels: &[Option<u32>], patches: &[u32]) ->
     requires ends { HaveNodes Outgoing (length levels.now) fields.now }
     requires levels { AreLevels fields.now levels.now }
     requires count { length levels.now ≤ MOST_NODES }
-    ensures { MatchOption result ((patch : ℕ) × Contains patches.now patch × IsOpen fields.now levels.now patch) (IsLevelOver fields.now levels.now patches.now) }
+    ensures { MatchOption result
+        ((patch : ℕ) × Contains patches.now patch × IsOpen fields.now levels.now patch)
+        (IsLevelOver fields.now levels.now patches.now) }
 {
     let mut level = 0;
     for patch in patches {
@@ -74,7 +78,9 @@ fn next_level(
     requires count { length levels.now ≤ MOST_NODES }
     requires places { length places.old ≡ length levels.now }
     requires node { node < length levels.now }
-    ensures { MatchOption result (slice_get levels.now node ≡ Some None → HasOpenParent fields.now levels.now node) (IsNextLevel fields.now levels.now node) }
+    ensures { MatchOption result
+        (slice_get levels.now node ≡ Some None → HasOpenParent fields.now levels.now node)
+        (IsNextLevel fields.now levels.now node) }
 {
     if levels[node as usize].is_some() {
         return None;
@@ -95,7 +101,8 @@ fn push_heads(
     patches: &[u32],
 ) -> Result<(), NoMemory>
     requires { All (λ patch. patch < length fields.now) patches.now }
-    ensures { OnOk result (waiting.new.items ≡ waiting.old.items ++ map (head_of fields.now) patches.now) }
+    ensures { OnOk result
+        (waiting.new.items ≡ waiting.old.items ++ map (head_of fields.now) patches.now) }
 {
     for patch in patches {
         waiting.push(fields[*patch as usize].head)?;

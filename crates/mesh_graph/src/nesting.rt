@@ -40,7 +40,11 @@ fn is_nested(nesting: Nesting, outgoing: &Adjacency, nodes: &[Node], field: &Pat
     requires head { field.now.head < length nodes.now }
     requires near { AreNearGrid nodes.now }
     requires as_many { length outgoing.now ≡ length nodes.now }
-    ensures { (fields : List PatchField) → IsAdjacency Outgoing fields (length nodes.now) outgoing.now → result ≡ nested_by (rule_of nesting) fields (slice_get nodes.now field.now.tail) (slice_get nodes.now field.now.head) field.now.head }
+    ensures { (fields : List PatchField)
+        → IsAdjacency Outgoing fields (length nodes.now) outgoing.now
+        → result
+        ≡ nested_by (rule_of nesting) fields (slice_get nodes.now field.now.tail)
+        (slice_get nodes.now field.now.head) field.now.head }
 {
     if outgoing.is_bare(field.head) {
         return true;
@@ -64,7 +68,9 @@ pub fn first_unnested(
     requires heads { HaveNodes Incoming (length nodes.now) fields.now }
     requires near { AreNearGrid nodes.now }
     requires count { length fields.now ≤ MOST_PATCHES }
-    ensures { (version : ℕ) → MatchOption result (AllNested (rule_of nesting) (index_of version nodes.now fields.now)) (IsLeastUnnested (rule_of nesting) (index_of version nodes.now fields.now)) }
+    ensures { (version : ℕ)
+        → MatchOption result (AllNested (rule_of nesting) (index_of version nodes.now fields.now))
+        (IsLeastUnnested (rule_of nesting) (index_of version nodes.now fields.now)) }
 {
     for (patch, field) in fields.iter().enumerate() {
         if !is_nested(nesting, outgoing, nodes, field) {

@@ -52,7 +52,9 @@ impl Body {
         requires counts { IsTrue (has_counts field) }
         requires size { length bytes.items ≤ body_size version field }
         requires offset { offset + body_size version field < 2 ^ 64 }
-        ensures exact { MatchResult result (λ body. body_in version patch field offset bytes.items ≡ Ok body.lists) (λ fault. body_in version patch field offset bytes.items ≡ Err fault) }
+        ensures exact { MatchResult result
+            (λ body. body_in version patch field offset bytes.items ≡ Ok body.lists)
+            (λ fault. body_in version patch field offset bytes.items ≡ Err fault) }
         ensures patch { IfOk result (λ body. body.patch ≡ patch) }
         ensures version { IfOk result (λ body. body.version ≡ version) }
         ensures bytes { IfOk result (λ body. body.bytes ≡ bytes.items) }
@@ -81,7 +83,8 @@ impl Body {
         ensures patch { IfOk result (λ body. body.patch ≡ patch) }
         ensures version { IfOk result (λ body. body.version ≡ 1) }
         ensures lists { IfOk result (λ body. body.lists ≡ lists_with points.now corners.now) }
-        ensures bytes { IfOk result (λ body. body.bytes ≡ body_text 1 (lists_with points.now corners.now)) }
+        ensures bytes { IfOk result
+            (λ body. body.bytes ≡ body_text 1 (lists_with points.now corners.now)) }
     {
         Body::spelled(alloc, patch, 1, points, corners)
     }
@@ -100,7 +103,8 @@ impl Body {
         ensures patch { IfOk result (λ body. body.patch ≡ patch) }
         ensures version { IfOk result (λ body. body.version ≡ 2) }
         ensures lists { IfOk result (λ body. body.lists ≡ lists_with points.now corners.now) }
-        ensures bytes { IfOk result (λ body. body.bytes ≡ body_text 2 (lists_with points.now corners.now)) }
+        ensures bytes { IfOk result
+            (λ body. body.bytes ≡ body_text 2 (lists_with points.now corners.now)) }
     {
         Body::spelled(alloc, patch, 2, points, corners)
     }
@@ -120,7 +124,8 @@ impl Body {
         ensures patch { IfOk result (λ body. body.patch ≡ patch) }
         ensures version { IfOk result (λ body. body.version ≡ version) }
         ensures lists { IfOk result (λ body. body.lists ≡ lists_with points.now corners.now) }
-        ensures bytes { IfOk result (λ body. body.bytes ≡ body_text version (lists_with points.now corners.now)) }
+        ensures bytes { IfOk result
+            (λ body. body.bytes ≡ body_text version (lists_with points.now corners.now)) }
     {
         let bytes = body_bytes(alloc, version, points, corners)?;
         Ok(Body {

@@ -38,7 +38,8 @@ fn check_point(source: Source, k: u32, bytes: &[u8]) -> Result<&[u8], FileFault>
 
 /// Looks at the points of a body of version 1.
 fn check_plain_points(source: Source, count: u16, bytes: &[u8]) -> Result<(), FileFault>
-    ensures { fault_of result ≡ fault_of (many_at (point_at source.patch source.end) count 0 bytes.now) }
+    ensures { fault_of result
+        ≡ fault_of (many_at (point_at source.patch source.end) count 0 bytes.now) }
 {
     let mut rest = bytes;
     for k in 0..u32::from(count) {
@@ -63,7 +64,8 @@ fn check_offsets(
     k: u32,
     bytes: &[u8],
 ) -> Result<(Zeros, &[u8]), FileFault>
-    ensures fault { fault_of result ≡ fault_of (shifted_at origin source.patch source.end k bytes.now) }
+    ensures fault { fault_of result
+        ≡ fault_of (shifted_at origin source.patch source.end k bytes.now) }
     ensures zeros { IfOk result (λ seen. seen.0 ≡ zeros_at origin (shifted_in origin bytes.now)) }
     ensures rest { IfOk result (λ seen. seen.1.now ≡ drop 6 bytes.now) }
 {
@@ -86,7 +88,9 @@ fn check_offsets(
 
 /// Tells whether the point that lies the offsets past the origin is in the grid.
 fn is_shifted_in_grid(origin: Point, x: u16, y: u16, z: u16) -> bool
-    ensures { result ≡ is_in_grid (record { x = origin.x +ℤ pos x; y = origin.y +ℤ pos y; z = origin.z +ℤ pos z }) }
+    ensures { result
+        ≡ is_in_grid
+        (record { x = origin.x +ℤ pos x; y = origin.y +ℤ pos y; z = origin.z +ℤ pos z }) }
 {
     is_shift_in_grid(origin.x, x) && is_shift_in_grid(origin.y, y) && is_shift_in_grid(origin.z, z)
 }
@@ -98,7 +102,9 @@ fn check_all_offsets(
     count: u16,
     bytes: &[u8],
 ) -> Result<(), FileFault>
-    ensures { fault_of result ≡ fault_with no_axis origin source.patch (many_at (shifted_at origin source.patch source.end) count 0 bytes.now) }
+    ensures { fault_of result
+        ≡ fault_with no_axis origin source.patch
+        (many_at (shifted_at origin source.patch source.end) count 0 bytes.now) }
 {
     let mut rest = bytes;
     let mut seen = Zeros::none();
@@ -113,7 +119,8 @@ fn check_all_offsets(
 /// Looks at the points of a body of version 2.
 #[tactic(auto, unfolding(file_model::specs::Reading::shifted_points_at))]
 fn check_shifted_points(source: Source, count: u16, bytes: &[u8]) -> Result<(), FileFault>
-    ensures { fault_of result ≡ fault_of (shifted_points_at count source.patch source.end bytes.now) }
+    ensures { fault_of result
+        ≡ fault_of (shifted_points_at count source.patch source.end bytes.now) }
 {
     if bytes.len() < 12 {
         return Err(FileFault::Truncated(source.end));
@@ -124,7 +131,8 @@ fn check_shifted_points(source: Source, count: u16, bytes: &[u8]) -> Result<(), 
 /// Looks at the points of a body.
 #[tactic(auto, unfolding(file_model::specs::Reading::points_at))]
 fn check_points(source: Source, version: u16, count: u16, bytes: &[u8]) -> Result<(), FileFault>
-    ensures { fault_of result ≡ fault_of (points_at version count source.patch source.end bytes.now) }
+    ensures { fault_of result
+        ≡ fault_of (points_at version count source.patch source.end bytes.now) }
 {
     if version == 2 {
         check_shifted_points(source, count, bytes)
@@ -162,7 +170,10 @@ fn check_triangle<'a>(
     rest: &'a [u8],
 ) -> Result<&'a [u8], FileFault>
     requires { fault_of (points_at version count source.patch source.end bytes.now) ≡ None }
-    ensures fault { fault_of result ≡ fault_of (triangle_at (points_read version count source.patch source.end bytes.now) source.patch source.end k rest.now) }
+    ensures fault { fault_of result
+        ≡ fault_of
+        (triangle_at (points_read version count source.patch source.end bytes.now) source.patch
+        source.end k rest.now) }
     ensures rest { IfOk result (λ behind. behind.now ≡ drop 6 rest.now) }
 {
     if rest.len() < 6 {
@@ -183,8 +194,15 @@ fn check_triangles(
     field: &PatchField,
     bytes: &[u8],
 ) -> Result<(), FileFault>
-    requires { fault_of (points_at version field.now.points source.patch source.end bytes.now) ≡ None }
-    ensures { fault_of result ≡ fault_of (many_at (triangle_at (points_read version field.now.points source.patch source.end bytes.now) source.patch source.end) field.now.triangles 0 (drop (points_size version field.now.points) bytes.now)) }
+    requires { fault_of (points_at version field.now.points source.patch source.end bytes.now)
+        ≡ None }
+    ensures { fault_of result
+        ≡ fault_of
+        (many_at
+        (triangle_at
+        (points_read version field.now.points source.patch source.end bytes.now)
+        source.patch source.end) field.now.triangles 0
+        (drop (points_size version field.now.points) bytes.now)) }
 {
     let mut rest = behind_points(version, field.points, bytes);
     for k in 0..u32::from(field.triangles) {

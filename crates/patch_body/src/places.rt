@@ -87,7 +87,8 @@ pub(crate) fn behind_points(version: u16, count: u16, bytes: &[u8]) -> &[u8]
 /// The corners of triangle t, behind so many points.
 pub(crate) fn corners_at(version: u16, count: u16, bytes: &[u8], t: u16) -> [u16; 3]
     requires { points_size version count + (6 * t + 6) ≤ length bytes.now }
-    ensures { corners_of result ≡ corners_in (drop (6 * t) (drop (points_size version count) bytes.now)) }
+    ensures { corners_of result
+        ≡ corners_in (drop (6 * t) (drop (points_size version count) bytes.now)) }
 {
     read_corners(&behind_points(version, count, bytes)[6 * usize::from(t)..])
 }

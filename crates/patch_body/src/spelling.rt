@@ -39,7 +39,9 @@ fn push_i32(out: &mut Vec<u8>, number: i32) -> Result<(), NoMemory>
 
 // Appends three numbers of two bytes.
 fn push_three(out: &mut Vec<u8>, a: u16, b: u16, c: u16) -> Result<(), NoMemory>
-    ensures { OnOk result (out.new.items ≡ out.old.items ++ (number_text 2 a ++ (number_text 2 b ++ number_text 2 c))) }
+    ensures { OnOk result
+        (out.new.items
+        ≡ out.old.items ++ (number_text 2 a ++ (number_text 2 b ++ number_text 2 c))) }
 {
     push_u16(out, a)?;
     push_u16(out, b)?;
@@ -48,7 +50,8 @@ fn push_three(out: &mut Vec<u8>, a: u16, b: u16, c: u16) -> Result<(), NoMemory>
 
 // Appends three signed numbers of four bytes.
 fn push_three_signed(out: &mut Vec<u8>, x: i32, y: i32, z: i32) -> Result<(), NoMemory>
-    ensures { OnOk result (out.new.items ≡ out.old.items ++ (signed_text x ++ (signed_text y ++ signed_text z))) }
+    ensures { OnOk result
+        (out.new.items ≡ out.old.items ++ (signed_text x ++ (signed_text y ++ signed_text z))) }
 {
     push_i32(out, x)?;
     push_i32(out, y)?;
@@ -143,7 +146,8 @@ fn push_points(out: &mut Vec<u8>, points: &[Point]) -> Result<(), NoMemory>
 // Appends how far points lie past the origin.
 fn push_all_offsets(out: &mut Vec<u8>, origin: Point, points: &[Point]) -> Result<(), NoMemory>
     requires { IsTrue (list_all (is_near_origin origin) points.now) }
-    ensures { OnOk result (out.new.items ≡ out.old.items ++ flat_map (offset_text origin) points.now) }
+    ensures { OnOk result
+        (out.new.items ≡ out.old.items ++ flat_map (offset_text origin) points.now) }
 {
     for point in points {
         push_offsets(out, origin, *point)?;
@@ -153,7 +157,8 @@ fn push_all_offsets(out: &mut Vec<u8>, origin: Point, points: &[Point]) -> Resul
 
 // Appends the corners of triangles.
 fn push_all_corners(out: &mut Vec<u8>, corners: &[[u16; 3]]) -> Result<(), NoMemory>
-    ensures { OnOk result (out.new.items ≡ out.old.items ++ flat_map corners_text (map corners_of corners.now)) }
+    ensures { OnOk result
+        (out.new.items ≡ out.old.items ++ flat_map corners_text (map corners_of corners.now)) }
 {
     for triangle in corners {
         push_corners(out, *triangle)?;
@@ -187,7 +192,8 @@ pub(crate) fn body_bytes(
     requires points { length points.now ≤ MOST_IN_PATCH }
     requires corners { length corners.now ≤ MOST_IN_PATCH }
     requires narrow { IsTrue (is_narrow version points.now) }
-    ensures { IfOk result (λ bytes. bytes.items ≡ body_text version (lists_with points.now corners.now)) }
+    ensures { IfOk result
+        (λ bytes. bytes.items ≡ body_text version (lists_with points.now corners.now)) }
 {
     let points_size = if version == 2 {
         12 + 6 * points.len()

@@ -44,7 +44,8 @@ impl Batch {
 
     /// Adds these bytes. What has no room goes to the sink.
     pub fn add<O: Sink>(&mut self, bytes: &[u8], sink: &mut O) -> Result<(), WriteFault>
-        ensures text { Sends result (O.written sink.old) (O.written sink.new) self.old self.new bytes.now }
+        ensures text { Sends result (O.written sink.old) (O.written sink.new) self.old self.new
+            bytes.now }
         ensures later { O.faults sink.old ≤ O.faults sink.new }
         ensures cause { OnErr result (Rose (O.faults sink.old) (O.faults sink.new)) }
     {

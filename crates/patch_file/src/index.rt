@@ -40,8 +40,12 @@ impl Index {
         nodes: Vec<Node>,
         fields: Vec<PatchField>,
     ) -> Result<Index, NoMemory>
-        requires { IsIndex (record { version = version; nodes = nodes.items; fields = fields.items }) }
-        ensures { IfOk result (λ index. index ≡ record { version = version; nodes = nodes.items; fields = fields.items }) }
+        requires { IsIndex
+            (record { version = version; nodes = nodes.items; fields = fields.items }) }
+        ensures { IfOk result
+            (λ index.
+            index
+            ≡ record { version = version; nodes = nodes.items; fields = fields.items }) }
     {
         let start = 16 + 20 * nodes.len() as u64 + 12 * fields.len() as u64;
         let (body_offsets, file_length) = offsets_of(alloc, version, start, &fields)?;
@@ -119,7 +123,8 @@ impl Index {
     /// How many bytes the body of this patch has.
     pub fn body_size(&self, patch: u32) -> u64
         requires { patch < length self.now.fields }
-        ensures value { IfSome (slice_get self.now.fields patch) (λ field. result ≡ body_size self.now.version field) }
+        ensures value { IfSome (slice_get self.now.fields patch)
+            (λ field. result ≡ body_size self.now.version field) }
         ensures within { body_offset self.now patch + result ≤ file_size self.now }
         ensures short { file_size self.now ≤ 2 ^ 40 }
     {

@@ -31,9 +31,12 @@ pub fn read_index<S: Store>(alloc: Global, store: &mut S, file: u32) -> Result<I
         (λ bytes. Gives (λ index. index) result (index_in bytes)) }
     ensures store { OnlyRead ReadFault (S.files store.old) (S.files store.new)
         (S.faults store.old) (S.faults store.new) result }
-    ensures taken { IfOk result (λ index. S.taken store.new ≡ taken_after (S.taken store.old) (bodies_offset index)) }
-    ensures cut { IfErr result (OnlyIf ReadFault
-        (RisesBelow (S.taken store.old) (S.taken store.new) (index_size (file_bytes (S.files store.old) file)))) }
+    ensures taken { IfOk result
+        (λ index. S.taken store.new ≡ taken_after (S.taken store.old) (bodies_offset index)) }
+    ensures cut { IfErr result
+        (OnlyIf ReadFault
+        (RisesBelow (S.taken store.old) (S.taken store.new)
+        (index_size (file_bytes (S.files store.old) file)))) }
 {
     let header = read_header(store, file)?;
     read_fields(alloc, header, store, file)
@@ -47,7 +50,8 @@ fn read_header<S: Store>(store: &mut S, file: u32) -> Result<Header, ReadRefusal
     ensures store { OnlyRead ReadFault (S.files store.old) (S.files store.new)
         (S.faults store.old) (S.faults store.new) result }
     ensures taken { IfOk result (λ _. S.taken store.new ≡ taken_after (S.taken store.old) 16) }
-    ensures cut { IfErr result (OnlyIf ReadFault (RisesBelow (S.taken store.old) (S.taken store.new) 16)) }
+    ensures cut { IfErr result
+        (OnlyIf ReadFault (RisesBelow (S.taken store.old) (S.taken store.new) 16)) }
 {
     let mut bytes = [0; 16];
     let Ok(n) = read_full(store, file, 0, &mut bytes) else {
@@ -68,11 +72,15 @@ fn read_fields<S: Store>(
 ) -> Result<Index, ReadRefusal>
     requires rules { IsHeader (header_seen header) }
     requires file { HasFile (S.files store.old) file }
-    ensures exact { IfSome (file_bytes (S.files store.old) file) (λ bytes. Gives (λ index. index) result
-        (fields_in (header_seen header) (take (fields_size (header_seen header)) (drop 16 bytes)))) }
+    ensures exact { IfSome (file_bytes (S.files store.old) file)
+        (λ bytes.
+        Gives (λ index. index) result
+        (fields_in (header_seen header)
+        (take (fields_size (header_seen header)) (drop 16 bytes)))) }
     ensures store { OnlyRead ReadFault (S.files store.old) (S.files store.new)
         (S.faults store.old) (S.faults store.new) result }
-    ensures size { IfOk result (λ index. bodies_offset index ≡ 16 + fields_size (header_seen header)) }
+    ensures size { IfOk result
+        (λ index. bodies_offset index ≡ 16 + fields_size (header_seen header)) }
     ensures taken { IfOk result (λ _. S.taken store.new
         ≡ taken_after (S.taken store.old) (fields_size (header_seen header))) }
     ensures cut { IfErr result (OnlyIf ReadFault
@@ -90,7 +98,8 @@ fn index_of(alloc: Global, header: Header, bytes: &[u8]) -> Result<Index, ReadRe
     requires size { length bytes.now ≤ fields_size (header_seen header) }
     ensures exact { Gives (λ index. index) result (fields_in (header_seen header) bytes.now) }
     ensures alone { IfErr result IsNotReadFault }
-    ensures size { IfOk result (λ index. bodies_offset index ≡ 16 + fields_size (header_seen header)) }
+    ensures size { IfOk result
+        (λ index. bodies_offset index ≡ 16 + fields_size (header_seen header)) }
     ensures read { IfOk result (λ _. length bytes.now ≡ fields_size (header_seen header)) }
 {
     let end = 16 + bytes.len() as u64;
@@ -118,11 +127,16 @@ pub fn read_body<S: Store>(
     ensures fault { IfErr result (RefusesBody patch) }
     ensures store { OnlyRead ReadFault (S.files store.old) (S.files store.new)
         (S.faults store.old) (S.faults store.new) result }
-    ensures taken { IfOk result (λ body. S.taken store.new ≡ taken_after (S.taken store.old) (length body.bytes)) }
+    ensures taken { IfOk result
+        (λ body. S.taken store.new ≡ taken_after (S.taken store.old) (length body.bytes)) }
     ensures most { IfSome (slice_get index.now.fields patch) (λ field.
         RisesAtMost (S.taken store.old) (S.taken store.new) (body_size index.now.version field)) }
-    ensures cut { IfErr result (OnlyIf ReadFault (IfSome (slice_get index.now.fields patch) (λ field.
-        RisesBelow (S.taken store.old) (S.taken store.new) (body_size index.now.version field)))) }
+    ensures cut { IfErr result
+        (OnlyIf ReadFault
+        (IfSome (slice_get index.now.fields patch)
+        (λ field.
+        RisesBelow (S.taken store.old) (S.taken store.new)
+        (body_size index.now.version field)))) }
 {
     let version = index.version();
     let field = index.patch(patch);
@@ -150,9 +164,11 @@ fn read_piece<S: Store>(
     ensures plain { IfErr result IsNotFault }
     ensures store { OnlyRead ReadFault (S.files store.old) (S.files store.new)
         (S.faults store.old) (S.faults store.new) result }
-    ensures taken { IfOk result (λ piece. S.taken store.new ≡ taken_after (S.taken store.old) (length piece.items)) }
+    ensures taken { IfOk result
+        (λ piece. S.taken store.new ≡ taken_after (S.taken store.old) (length piece.items)) }
     ensures most { RisesAtMost (S.taken store.old) (S.taken store.new) size }
-    ensures cut { IfErr result (OnlyIf ReadFault (RisesBelow (S.taken store.old) (S.taken store.new) size)) }
+    ensures cut { IfErr result
+        (OnlyIf ReadFault (RisesBelow (S.taken store.old) (S.taken store.new) size)) }
 {
     let mut bytes = vec![in alloc; 0; size as usize]?;
     let Ok(n) = read_full(store, file, offset, &mut bytes) else {

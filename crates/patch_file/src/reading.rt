@@ -25,7 +25,8 @@ pub fn read_full<S: Store>(
     ensures later { S.faults store.old ≤ S.faults store.new }
     ensures cause { OnErr result (Rose (S.faults store.old) (S.faults store.new)) }
     ensures taken { IfOk result (λ n. S.taken store.new ≡ taken_after (S.taken store.old) n) }
-    ensures cut { OnErr result (RisesBelow (S.taken store.old) (S.taken store.new) (length buffer.old)) }
+    ensures cut { OnErr result
+        (RisesBelow (S.taken store.old) (S.taken store.new) (length buffer.old)) }
 {
     let mut filled = 0;
     while filled < buffer.len() {

@@ -240,7 +240,11 @@ fn reads_byte_by_byte(rt: HostRuntime) -> Result<(), Fail> {
 
 /// A node whose centre is (at, at, 0).
 fn node(at: i32, radius: u32, error: u32) -> Node
-    ensures { result ≡ record { ball = record { centre = record { x = at; y = at; z = pos 0 }; radius = radius }; error = error } }
+    ensures { result
+        ≡ record {
+          ball = record { centre = record { x = at; y = at; z = pos 0 }; radius = radius };
+          error = error;
+        } }
 {
     let centre = Point { x: at, y: at, z: 0 };
     Node {

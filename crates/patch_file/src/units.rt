@@ -19,7 +19,8 @@ pub fn nodes_of(
     end: u64,
     bytes: &[u8],
 ) -> Result<(Vec<Node>, &[u8]), ReadRefusal>
-    ensures exact { Gives (λ x. (x.0.items, x.1.now)) result (many_at (node_at end) count 0 bytes.now) }
+    ensures exact { Gives (λ x. (x.0.items, x.1.now)) result
+        (many_at (node_at end) count 0 bytes.now) }
     ensures alone { IfErr result IsNotReadFault }
 {
     let mut nodes = Vec::with_capacity(alloc, count as usize)?;
@@ -44,7 +45,8 @@ pub fn fields_of(
     end: u64,
     bytes: &[u8],
 ) -> Result<(Vec<PatchField>, &[u8]), ReadRefusal>
-    ensures exact { Gives (λ x. (x.0.items, x.1.now)) result (many_at (field_at nodes end) count 0 bytes.now) }
+    ensures exact { Gives (λ x. (x.0.items, x.1.now)) result
+        (many_at (field_at nodes end) count 0 bytes.now) }
     ensures alone { IfErr result IsNotReadFault }
 {
     let mut fields = Vec::with_capacity(alloc, count as usize)?;

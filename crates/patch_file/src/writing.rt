@@ -30,7 +30,8 @@ pub fn write_file<O: Sink>(parts: &FileParts, sink: &mut O) -> Result<(), WriteF
 /// What stands before the bodies.
 fn add_index<O: Sink>(parts: &FileParts, batch: &mut Batch, sink: &mut O) -> Result<(), WriteFault>
     requires { IsIndex parts.now.index }
-    ensures text { Sends result (O.written sink.old) (O.written sink.new) batch.old batch.new (index_text parts.now.index) }
+    ensures text { Sends result (O.written sink.old) (O.written sink.new) batch.old batch.new
+        (index_text parts.now.index) }
     ensures later { O.faults sink.old ≤ O.faults sink.new }
     ensures cause { OnErr result (Rose (O.faults sink.old) (O.faults sink.new)) }
 {
@@ -48,7 +49,8 @@ fn add_units<O: Sink>(
     batch: &mut Batch,
     sink: &mut O,
 ) -> Result<(), WriteFault>
-    ensures text { Sends result (O.written sink.old) (O.written sink.new) batch.old batch.new (flat_map node_text nodes.now ++ flat_map field_text fields.now) }
+    ensures text { Sends result (O.written sink.old) (O.written sink.new) batch.old batch.new
+        (flat_map node_text nodes.now ++ flat_map field_text fields.now) }
     ensures later { O.faults sink.old ≤ O.faults sink.new }
     ensures cause { OnErr result (Rose (O.faults sink.old) (O.faults sink.new)) }
 {
@@ -57,7 +59,8 @@ fn add_units<O: Sink>(
 }
 
 fn add_nodes<O: Sink>(nodes: &[Node], batch: &mut Batch, sink: &mut O) -> Result<(), WriteFault>
-    ensures text { Sends result (O.written sink.old) (O.written sink.new) batch.old batch.new (flat_map node_text nodes.now) }
+    ensures text { Sends result (O.written sink.old) (O.written sink.new) batch.old batch.new
+        (flat_map node_text nodes.now) }
     ensures later { O.faults sink.old ≤ O.faults sink.new }
     ensures cause { OnErr result (Rose (O.faults sink.old) (O.faults sink.new)) }
 {
@@ -72,7 +75,8 @@ fn add_fields<O: Sink>(
     batch: &mut Batch,
     sink: &mut O,
 ) -> Result<(), WriteFault>
-    ensures text { Sends result (O.written sink.old) (O.written sink.new) batch.old batch.new (flat_map field_text fields.now) }
+    ensures text { Sends result (O.written sink.old) (O.written sink.new) batch.old batch.new
+        (flat_map field_text fields.now) }
     ensures later { O.faults sink.old ≤ O.faults sink.new }
     ensures cause { OnErr result (Rose (O.faults sink.old) (O.faults sink.new)) }
 {
@@ -83,7 +87,8 @@ fn add_fields<O: Sink>(
 }
 
 fn add_bodies<O: Sink>(bodies: &[Body], batch: &mut Batch, sink: &mut O) -> Result<(), WriteFault>
-    ensures text { Sends result (O.written sink.old) (O.written sink.new) batch.old batch.new (flat_map (λ body. body.bytes) bodies.now) }
+    ensures text { Sends result (O.written sink.old) (O.written sink.new) batch.old batch.new
+        (flat_map (λ body. body.bytes) bodies.now) }
     ensures later { O.faults sink.old ≤ O.faults sink.new }
     ensures cause { OnErr result (Rose (O.faults sink.old) (O.faults sink.new)) }
 {

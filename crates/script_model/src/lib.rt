@@ -29,11 +29,16 @@ pub use stages::SessionStage;
 
 /// The lines of a script have ascending numbers, and each line's order may stand behind those before it.
 pub fn scripts_have_allowed_lines()
-    ensures lines { (mode : Mode) (tiers : ℕ) (bytes : List ℕ) (lines : List Line) → script_in mode tiers bytes ≡ Ok lines → AreLines mode tiers lines }
-    ensures first { (mode : Mode) (tiers : ℕ) (history : History) (above : ℕ) (line : Line) (lines : List Line) → are_lines_from mode tiers history above (line ∷ lines) ≡ true → StandsFirst mode tiers history above line lines }
+    ensures lines { (mode : Mode) (tiers : ℕ) (bytes : List ℕ) (lines : List Line)
+        → script_in mode tiers bytes ≡ Ok lines → AreLines mode tiers lines }
+    ensures first { (mode : Mode) (tiers : ℕ) (history : History) (above : ℕ) (line : Line)
+        (lines : List Line) → are_lines_from mode tiers history above (line ∷ lines) ≡ true
+        → StandsFirst mode tiers history above line lines }
 {}
 
 /// In a script that is played, an order is allowed exactly where it has no fault.
 pub fn allowed_orders_have_no_fault()
-    ensures { (tiers : ℕ) (history : History) (number : ℕ) (order : Order) → IsTrue (allows tiers history order) ↔ (order_fault Play tiers history number order ≡ None) }
+    ensures { (tiers : ℕ) (history : History) (number : ℕ) (order : Order)
+        → IsTrue (allows tiers history order)
+        ↔ (order_fault Play tiers history number order ≡ None) }
 {}

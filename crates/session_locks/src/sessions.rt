@@ -27,9 +27,14 @@ impl<'m> Model for Session<'m> {
 
     ghost Value = { SessionSeen };
 
-    ghost view = { λ s. session_seen s.mesh.now.lists s.number s.view s.round s.is_printed s.locked.items s.flight s.frames };
+    ghost view = { λ s.
+        session_seen s.mesh.now.lists s.number s.view s.round s.is_printed s.locked.items s.flight
+        s.frames };
 
-    ghost invariant = { λ s. AreParts (session_seen s.mesh.now.lists s.number s.view s.round s.is_printed s.locked.items s.flight s.frames) s.locked.items };
+    ghost invariant = { λ s.
+        AreParts
+        (session_seen s.mesh.now.lists s.number s.view s.round s.is_printed s.locked.items
+        s.flight s.frames) s.locked.items };
 }
 
 impl<'m> Session<'m> {
@@ -40,7 +45,11 @@ impl<'m> Session<'m> {
 
     /// The session of this number, without a view and without a round. It takes the room for all locks.
     pub fn open(alloc: Global, mesh: &'m Mesh, number: u32) -> Result<Session<'m>, NoMemory>
-        ensures { IfOk result (λ s. s ≡ session_of mesh.now.lists number (opened (length mesh.now.lists.index.fields))) }
+        ensures { IfOk result
+            (λ s.
+            s
+            ≡ session_of mesh.now.lists number
+            (opened (length mesh.now.lists.index.fields))) }
     {
         let patches = mesh.index().patch_count() as usize;
         let locked = vec![in alloc; false; patches]?;
@@ -84,7 +93,8 @@ impl<'m> Session<'m> {
 
     /// The round that stands, and none where there is no round.
     pub fn round(&self) -> Option<&Refiner<'m>>
-        ensures { MatchOption result (self.now.state.round ≡ None) (λ r. self.now.state.round ≡ Some r.now) }
+        ensures { MatchOption result (self.now.state.round ≡ None)
+            (λ r. self.now.state.round ≡ Some r.now) }
     {
         self.round.as_ref()
     }

@@ -79,9 +79,11 @@ fn expect_steps<T: Tokens>(
     pass: &mut T::Pass,
     steps: &[Stepped],
 ) -> Result<(), Fail>
-    requires pass { IsPassOf (T.IsPass tokens.old pass.old) (T.patches tokens.old) (T.uses tokens.old pass.old) (T.locks tokens.old pass.old) session.old }
+    requires pass { IsPassOf (T.IsPass tokens.old pass.old) (T.patches tokens.old)
+        (T.uses tokens.old pass.old) (T.locks tokens.old pass.old) session.old }
     requires view { (view : ViewSeen) × (session.old.state.view ≡ Some view) }
-    ensures pass { IsPassOf (T.IsPass tokens.new pass.new) (T.patches tokens.new) (T.uses tokens.new pass.new) (T.locks tokens.new pass.new) session.new }
+    ensures pass { IsPassOf (T.IsPass tokens.new pass.new) (T.patches tokens.new)
+        (T.uses tokens.new pass.new) (T.locks tokens.new pass.new) session.new }
 {
     for step in steps {
         assert_eq!(rt; session.step(alloc, tokens, pass)?, *step);
@@ -97,8 +99,10 @@ fn expect_freed<T: Tokens>(
     pass: &mut T::Pass,
     steps: &[Stepped],
 )
-    requires pass { IsPassOf (T.IsPass tokens.old pass.old) (T.patches tokens.old) (T.uses tokens.old pass.old) (T.locks tokens.old pass.old) session.old }
-    ensures pass { IsPassOf (T.IsPass tokens.new pass.new) (T.patches tokens.new) (T.uses tokens.new pass.new) (T.locks tokens.new pass.new) session.new }
+    requires pass { IsPassOf (T.IsPass tokens.old pass.old) (T.patches tokens.old)
+        (T.uses tokens.old pass.old) (T.locks tokens.old pass.old) session.old }
+    ensures pass { IsPassOf (T.IsPass tokens.new pass.new) (T.patches tokens.new)
+        (T.uses tokens.new pass.new) (T.locks tokens.new pass.new) session.new }
 {
     for step in steps {
         assert_eq!(rt; session.free_step(tokens, pass), Some(*step));
@@ -115,7 +119,11 @@ fn seated<'m>(
 ) -> Result<(Session<'m>, PlainPass), Fail>
     requires patches { patch_count tokens.now ≡ 7 }
     requires unused { IsUnused tokens.now }
-    ensures pass { IfOk result (λ seat. IsPassOf (IsSession (session_of seat.1)) (patch_count tokens.now) (is_user tokens.now (session_of seat.1)) (is_locker tokens.now (session_of seat.1)) seat.0) }
+    ensures pass { IfOk result
+        (λ seat.
+        IsPassOf (IsSession (session_of seat.1)) (patch_count tokens.now)
+        (is_user tokens.now (session_of seat.1))
+        (is_locker tokens.now (session_of seat.1)) seat.0) }
     ensures view { IfOk result (λ seat. (view : ViewSeen) × (seat.0.state.view ≡ Some view)) }
 {
     if mesh.index().patch_count() > 7 {

@@ -31,59 +31,86 @@ pub use steps::Stepped;
 
 /// A round never asks for a patch that it has tried.
 pub fn no_patch_is_tried_twice_in_a_round()
-    ensures { (r : Refining) → IsRefining r → (p : ℕ) → pending_ask r ≡ Lock p → was_tried r.tries p ≡ false }
+    ensures { (r : Refining) → IsRefining r → (p : ℕ) → pending_ask r ≡ Lock p
+        → was_tried r.tries p ≡ false }
 {}
 
 /// An answer changes the lock of the patch that was tried and no other: it is locked exactly where the epoch is
 /// odd. What is to be given back is locked, and giving it back changes no other lock.
 pub fn each_answer_changes_one_lock()
-    ensures tried { (r : Refining) → IsRefining r → (p : ℕ) → pending_ask r ≡ Lock p → (epoch : ℕ) → SetAt (round_locks r) p (is_odd epoch) (round_locks (after_answer r p epoch)) }
-    ensures held { (r : Refining) → IsRefining r → (p : ℕ) → pending_ask r ≡ GiveBack p → round_locks r p ≡ true }
-    ensures given { (r : Refining) → IsRefining r → (p : ℕ) → pending_ask r ≡ GiveBack p → SetAt (round_locks r) p false (round_locks (after_release r)) }
+    ensures tried { (r : Refining) → IsRefining r → (p : ℕ) → pending_ask r ≡ Lock p → (epoch : ℕ)
+        → SetAt (round_locks r) p (is_odd epoch) (round_locks (after_answer r p epoch)) }
+    ensures held { (r : Refining) → IsRefining r → (p : ℕ) → pending_ask r ≡ GiveBack p
+        → round_locks r p ≡ true }
+    ensures given { (r : Refining) → IsRefining r → (p : ℕ) → pending_ask r ≡ GiveBack p
+        → SetAt (round_locks r) p false (round_locks (after_release r)) }
 {}
 
 /// Each patch of the frame that a round has reached is a base patch, or the round has it locked.
 pub fn patches_of_a_frame_are_locked()
-    ensures round { (r : Refining) → IsRefining r → (p : ℕ) → is_among (cut_patches r) p ≡ true → (is_base r p ≡ true) ⊎ (round_locks r p ≡ true) }
-    ensures session { (mesh : MeshLists) → IsMesh mesh → (s : SessionState) → IsSessionState mesh s → (view : ViewSeen) → s.view ≡ Some view → (epoch : ℕ) → (step mesh s epoch).did ≡ Done → IsLockedFrame (step mesh s epoch).state }
+    ensures round { (r : Refining) → IsRefining r → (p : ℕ) → is_among (cut_patches r) p ≡ true
+        → (is_base r p ≡ true) ⊎ (round_locks r p ≡ true) }
+    ensures session { (mesh : MeshLists) → IsMesh mesh → (s : SessionState) → IsSessionState mesh s
+        → (view : ViewSeen) → s.view ≡ Some view → (epoch : ℕ) → (step mesh s epoch).did ≡ Done
+        → IsLockedFrame (step mesh s epoch).state }
 {}
 
 /// Each step changes the locks and the uses as its answer says, and keeps the session one over the mesh.
 pub fn each_step_does_what_it_says()
-    ensures does { (mesh : MeshLists) → IsMesh mesh → (s : SessionState) → IsSessionState mesh s → (epoch : ℕ) → Does s (step mesh s epoch).did (step mesh s epoch).state }
-    ensures keeps { (mesh : MeshLists) → IsMesh mesh → (s : SessionState) → IsSessionState mesh s → (epoch : ℕ) → IsSessionState mesh (step mesh s epoch).state }
-    ensures freed { (mesh : MeshLists) → IsMesh mesh → (s : SessionState) → IsSessionState mesh s → DoesFree s (free_step s).did (free_step s).state }
-    ensures keeps_freed { (mesh : MeshLists) → IsMesh mesh → (s : SessionState) → IsSessionState mesh s → IsSessionState mesh (free_step s).state }
+    ensures does { (mesh : MeshLists) → IsMesh mesh → (s : SessionState) → IsSessionState mesh s
+        → (epoch : ℕ) → Does s (step mesh s epoch).did (step mesh s epoch).state }
+    ensures keeps { (mesh : MeshLists) → IsMesh mesh → (s : SessionState) → IsSessionState mesh s
+        → (epoch : ℕ) → IsSessionState mesh (step mesh s epoch).state }
+    ensures freed { (mesh : MeshLists) → IsMesh mesh → (s : SessionState) → IsSessionState mesh s
+        → DoesFree s (free_step s).did (free_step s).state }
+    ensures keeps_freed { (mesh : MeshLists) → IsMesh mesh → (s : SessionState)
+        → IsSessionState mesh s → IsSessionState mesh (free_step s).state }
 {}
 
 /// Where a view is set on, a round ends or a frame is printed, no lock and no try in flight changes.
 pub fn other_changes_keep_the_locks()
     ensures opened { (mesh : MeshLists) → IsSessionState mesh (opened (length mesh.index.fields)) }
     ensures unlocked { (patches p : ℕ) → uses (opened patches) p ≡ false }
-    ensures viewed { (mesh : MeshLists) (s : SessionState) (view : ViewSeen) → IsSessionState mesh s → Stays (locks s) (locks (with_view view s)) }
+    ensures viewed { (mesh : MeshLists) (s : SessionState) (view : ViewSeen) → IsSessionState mesh s
+        → Stays (locks s) (locks (with_view view s)) }
     ensures printed { (s : SessionState) → Stays (locks s) (locks (printed_once s)) }
-    ensures ended { (mesh : MeshLists) (s : SessionState) → IsSessionState mesh s → Stays (locks s) (locks (round_ended s)) }
+    ensures ended { (mesh : MeshLists) (s : SessionState) → IsSessionState mesh s
+        → Stays (locks s) (locks (round_ended s)) }
 {}
 
 /// Each step but one that is done leaves less to do, so steps come to an end; each free step ends a use, unless
 /// there is none.
 pub fn steps_come_to_an_end()
-    ensures steps { (mesh : MeshLists) → IsMesh mesh → (s : SessionState) → IsSessionState mesh s → (epoch : ℕ) → ((step mesh s epoch).did ≡ Done) ⊎ (steps_left (step mesh s epoch).state < steps_left s) }
-    ensures done { (mesh : MeshLists) (s : SessionState) → IsSessionState mesh s → (view : ViewSeen) → s.view ≡ Some view → (epoch : ℕ) → (step mesh s epoch).did ≡ Done → HasDone (step mesh s epoch).state }
-    ensures freed { (mesh : MeshLists) → IsMesh mesh → (s : SessionState) → IsSessionState mesh s → Frees s (free_step s).did (free_step s).state }
+    ensures steps { (mesh : MeshLists) → IsMesh mesh → (s : SessionState) → IsSessionState mesh s
+        → (epoch : ℕ)
+        → ((step mesh s epoch).did ≡ Done) ⊎ (steps_left (step mesh s epoch).state < steps_left s) }
+    ensures done { (mesh : MeshLists) (s : SessionState) → IsSessionState mesh s → (view : ViewSeen)
+        → s.view ≡ Some view → (epoch : ℕ) → (step mesh s epoch).did ≡ Done
+        → HasDone (step mesh s epoch).state }
+    ensures freed { (mesh : MeshLists) → IsMesh mesh → (s : SessionState) → IsSessionState mesh s
+        → Frees s (free_step s).did (free_step s).state }
 {}
 
 /// Where a session had no round, or a printed one, the tries of the round that it finishes are those that it
 /// made.
 pub fn a_finished_round_has_the_tries_that_were_made()
-    ensures { (mesh : MeshLists) → IsMesh mesh → (told : Bool) (epochs : ℕ → ℕ) (s : SessionState) → IsSessionState mesh s → unprinted_round s ≡ None → (view : ViewSeen) → s.view ≡ Some view → (tries : List (ℕ × ℕ)) (t : SessionState) → Finishes mesh told epochs s tries t → (has : HasDone t) × (pairs_of has.round.tries ≡ tries) }
+    ensures { (mesh : MeshLists) → IsMesh mesh → (told : Bool) (epochs : ℕ → ℕ) (s : SessionState)
+        → IsSessionState mesh s → unprinted_round s ≡ None → (view : ViewSeen) → s.view ≡ Some view
+        → (tries : List (ℕ × ℕ)) (t : SessionState) → Finishes mesh told epochs s tries t
+        → (has : HasDone t) × (pairs_of has.round.tries ≡ tries) }
 {}
 
 /// What a session has locked after an event it had locked, or the patch has an odd epoch.
 pub fn what_is_locked_has_an_odd_epoch()
-    ensures stepped { (mesh : MeshLists) → IsMesh mesh → (epochs : ℕ → ℕ) (s : SessionState) → IsSessionState mesh s → (epoch : ℕ) → IsOfEpochs epochs (step mesh s epoch).did → IsNext mesh epochs s (step mesh s epoch).state }
-    ensures by_epochs { (mesh : MeshLists) (epochs : ℕ → ℕ) (epoch : ℕ) (s : SessionState) → IsOfEpochs epochs (step mesh s epoch).did → step mesh s epoch ≡ step_by mesh epochs s }
-    ensures freed { (mesh : MeshLists) → IsMesh mesh → (epochs : ℕ → ℕ) (s : SessionState) → IsSessionState mesh s → IsNext mesh epochs s (free_step s).state }
-    ensures viewed { (mesh : MeshLists) (epochs : ℕ → ℕ) (s : SessionState) (view : ViewSeen) → IsSessionState mesh s → IsNext mesh epochs s (with_view view s) }
-    ensures printed { (mesh : MeshLists) (epochs : ℕ → ℕ) (s : SessionState) → IsSessionState mesh s → IsNext mesh epochs s (printed_once s) }
+    ensures stepped { (mesh : MeshLists) → IsMesh mesh → (epochs : ℕ → ℕ) (s : SessionState)
+        → IsSessionState mesh s → (epoch : ℕ) → IsOfEpochs epochs (step mesh s epoch).did
+        → IsNext mesh epochs s (step mesh s epoch).state }
+    ensures by_epochs { (mesh : MeshLists) (epochs : ℕ → ℕ) (epoch : ℕ) (s : SessionState)
+        → IsOfEpochs epochs (step mesh s epoch).did → step mesh s epoch ≡ step_by mesh epochs s }
+    ensures freed { (mesh : MeshLists) → IsMesh mesh → (epochs : ℕ → ℕ) (s : SessionState)
+        → IsSessionState mesh s → IsNext mesh epochs s (free_step s).state }
+    ensures viewed { (mesh : MeshLists) (epochs : ℕ → ℕ) (s : SessionState) (view : ViewSeen)
+        → IsSessionState mesh s → IsNext mesh epochs s (with_view view s) }
+    ensures printed { (mesh : MeshLists) (epochs : ℕ → ℕ) (s : SessionState) → IsSessionState mesh s
+        → IsNext mesh epochs s (printed_once s) }
 {}

@@ -14,6 +14,10 @@ ghost use Rattle.tier_model.specs.Settling.{TurnsToIdle};
 /// One settling of one tier takes at most six turns a patch, and the idle one, whatever the tier's width and
 /// whatever is found outside. So it takes at most 8P + 8 of P patches.
 pub fn a_tier_settles_in_few_turns()
-    ensures few { (board : Board) (k : ℕ) (a c : Chain) (log : List (ℕ × Turn)) (s : TierState) → TurnsToIdle board k a log c → slice_get a.tiers k ≡ Some s → IsTier s → length log ≤ 6 * count s + 1 }
-    ensures fewer { (board : Board) (k : ℕ) (a c : Chain) (log : List (ℕ × Turn)) (s : TierState) → TurnsToIdle board k a log c → slice_get a.tiers k ≡ Some s → IsTier s → length log ≤ 8 * count s + 8 }
+    ensures few { (board : Board) (k : ℕ) (a c : Chain) (log : List (ℕ × Turn)) (s : TierState)
+        → TurnsToIdle board k a log c → slice_get a.tiers k ≡ Some s → IsTier s
+        → length log ≤ 6 * count s + 1 }
+    ensures fewer { (board : Board) (k : ℕ) (a c : Chain) (log : List (ℕ × Turn)) (s : TierState)
+        → TurnsToIdle board k a log c → slice_get a.tiers k ≡ Some s → IsTier s
+        → length log ≤ 8 * count s + 8 }
 {}

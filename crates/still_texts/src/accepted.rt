@@ -13,7 +13,8 @@ use std::alloc::Global;
 /// The line that tells of an accepted file: how many nodes, patches, triangles and open edges it has.
 #[tactic(auto, unfolding(text_model::specs::AcceptedText::accepted_line))]
 pub fn accepted_text(alloc: Global, mesh: &Mesh) -> Result<Vec<u8>, NoMemory>
-    ensures of_file { (file : FileLists) → IsMeshOf file mesh.now → IfOk result (λ text. IsAcceptedText file mesh.now.lists.root text.items) }
+    ensures of_file { (file : FileLists) → IsMeshOf file mesh.now
+        → IfOk result (λ text. IsAcceptedText file mesh.now.lists.root text.items) }
     ensures line { IfOk result (λ text. IsAcceptedLine text.items) }
 {
     let counts = [

@@ -26,8 +26,10 @@ pub fn base_text<S: Store>(
     file: u32,
 ) -> Result<Vec<u8>, LoadRefusal>
     requires { HasFile (S.files store.old) file }
-    ensures told { IfSome (file_bytes (S.files store.old) file) (λ bytes. (lists : FileLists) → file_in bytes ≡ Ok lists
-        → IsMeshOf lists mesh.now → GivesText (IsBaseText lists mesh.now.lists.root) result) }
+    ensures told { IfSome (file_bytes (S.files store.old) file)
+        (λ bytes.
+        (lists : FileLists) → file_in bytes ≡ Ok lists → IsMeshOf lists mesh.now
+        → GivesText (IsBaseText lists mesh.now.lists.root) result) }
     ensures frame { IfOk result (λ text. IsStillText text.items) }
     ensures changed { IfErr result IsBodyChange }
     ensures store { OnlyRead ReadFault (S.files store.old) (S.files store.new)

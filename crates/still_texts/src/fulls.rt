@@ -31,7 +31,8 @@ fn granted_round<'m>(alloc: Global, mesh: &'m Mesh, view: &View) -> Result<Refin
     ensures rules { IfOk result (λ round. round.rules ≡ view_rules view.now mesh.now.lists) }
     ensures done { IfOk result (λ round. pending_ask round ≡ Done) }
     ensures whole { IfOk result (λ round. IsWhole (round_state round)) }
-    ensures granted { IfOk result (λ round. AllByRecursion (λ answer. answer.epoch ≡ 1) round.tries) }
+    ensures granted { IfOk result
+        (λ round. AllByRecursion (λ answer. answer.epoch ≡ 1) round.tries) }
 {
     let mut round = Refiner::begin(alloc, mesh, view, view.limit())?;
     while let Ask::Lock(_) = round.ask() {
@@ -50,8 +51,10 @@ pub fn full_text<S: Store>(
     file: u32,
 ) -> Result<Vec<u8>, LoadRefusal>
     requires { HasFile (S.files store.old) file }
-    ensures told { IfSome (file_bytes (S.files store.old) file) (λ bytes. (lists : FileLists) → file_in bytes ≡ Ok lists
-        → IsMeshOf lists mesh.now → GivesText (IsFullText view.now lists mesh.now.lists.root) result) }
+    ensures told { IfSome (file_bytes (S.files store.old) file)
+        (λ bytes.
+        (lists : FileLists) → file_in bytes ≡ Ok lists → IsMeshOf lists mesh.now
+        → GivesText (IsFullText view.now lists mesh.now.lists.root) result) }
     ensures frame { IfOk result (λ text. IsStillText text.items) }
     ensures changed { IfErr result IsBodyChange }
     ensures store { OnlyRead ReadFault (S.files store.old) (S.files store.new)

@@ -17,23 +17,29 @@ ghost use Rattle.still_texts.specs.Full.{IsGranted, IsFullText};
 
 /// The line of an accepted file is one.
 pub fn an_accepted_file_has_one_line()
-    ensures { (file : FileLists) (root : ℕ) (text other : List ℕ) → IsAcceptedText file root text → IsAcceptedText file root other → text ≡ other }
+    ensures { (file : FileLists) (root : ℕ) (text other : List ℕ) → IsAcceptedText file root text
+        → IsAcceptedText file root other → text ≡ other }
 {}
 
 /// A frame has one text.
 pub fn a_frame_has_one_text()
-    ensures { (frame : Frame) (text other : List ℕ) → IsFrameText frame text → IsFrameText frame other → text ≡ other }
+    ensures { (frame : Frame) (text other : List ℕ) → IsFrameText frame text
+        → IsFrameText frame other → text ≡ other }
 {}
 
 /// The text of the base is one.
 pub fn a_base_has_one_text()
-    ensures { (file : FileLists) (root : ℕ) (text other : List ℕ) → IsBaseText file root text → IsBaseText file root other → text ≡ other }
+    ensures { (file : FileLists) (root : ℕ) (text other : List ℕ) → IsBaseText file root text
+        → IsBaseText file root other → text ≡ other }
 {}
 
 /// The text of a view's whole round is one: one list of epochs that are all 1 makes a round whole, and an
 /// accepted mesh has its levels from its nodes and patches.
 pub fn a_view_has_one_text()
-    ensures rounds { (rules : Rules) (epochs others : List ℕ) → IsGranted rules epochs → IsGranted rules others → epochs ≡ others }
-    ensures meshes { (mesh other : MeshLists) → IsMesh mesh → IsMesh other → mesh.index ≡ other.index → mesh.root ≡ other.root → mesh ≡ other }
-    ensures texts { (view : ViewSeen) (file : FileLists) (root : ℕ) (text other : List ℕ) → IsFullText view file root text → IsFullText view file root other → text ≡ other }
+    ensures rounds { (rules : Rules) (epochs others : List ℕ) → IsGranted rules epochs
+        → IsGranted rules others → epochs ≡ others }
+    ensures meshes { (mesh other : MeshLists) → IsMesh mesh → IsMesh other
+        → mesh.index ≡ other.index → mesh.root ≡ other.root → mesh ≡ other }
+    ensures texts { (view : ViewSeen) (file : FileLists) (root : ℕ) (text other : List ℕ)
+        → IsFullText view file root text → IsFullText view file root other → text ≡ other }
 {}

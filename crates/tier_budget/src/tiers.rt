@@ -105,8 +105,10 @@ impl Tier {
     /// The body of the patch, None exactly where the tier doesn't hold the patch.
     pub fn held(&self, patch: u32) -> Option<&Arc<Body>>
         requires { patch < count self.now.state }
-        ensures body { MatchOption result (slice_get self.now.state.held patch ≡ Some None) (λ body. slice_get self.now.state.held patch ≡ Some (Some (arc_value body.now))) }
-        ensures right { IfSome result (λ body. IsBodyFor self.now.state.sizes patch (arc_value body.now)) }
+        ensures body { MatchOption result (slice_get self.now.state.held patch ≡ Some None)
+            (λ body. slice_get self.now.state.held patch ≡ Some (Some (arc_value body.now))) }
+        ensures right { IfSome result
+            (λ body. IsBodyFor self.now.state.sizes patch (arc_value body.now)) }
     {
         self.held[patch as usize].as_ref()
     }

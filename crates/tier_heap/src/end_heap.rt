@@ -81,7 +81,8 @@ impl EndHeap {
         requires lists { Lists ranks.now self.now }
         requires place { place < self.now.count }
         requires other { other < self.now.count }
-        ensures { result ≡ is_ahead self.now.end ranks.now (id_at self.now place) (id_at self.now other) }
+        ensures { result
+            ≡ is_ahead self.now.end ranks.now (id_at self.now place) (id_at self.now other) }
     {
         let id = self.order[place];
         let other_id = self.order[other];

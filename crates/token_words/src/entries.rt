@@ -60,7 +60,8 @@ impl Entry {
         ensures seen { result.epoch ≡ self.old.word.epoch }
         ensures epoch { self.new.word.epoch ≡ self.old.word.epoch }
         ensures pin { self.new.word.is_pinned ≡ self.old.word.is_pinned }
-        ensures users { SetAt (has_session self.old.users.mask) session true (has_session self.new.users.mask) }
+        ensures users { SetAt (has_session self.old.users.mask) session true
+            (has_session self.new.users.mask) }
         ensures lockers { SetAt (has_session self.old.lockers.mask) session (is_odd result.epoch)
             (has_session self.new.lockers.mask) }
     {
@@ -80,7 +81,8 @@ impl Entry {
         requires refused { has_session self.old.lockers.mask session ≡ false }
         ensures epoch { self.new.word.epoch ≡ self.old.word.epoch }
         ensures pin { self.new.word.is_pinned ≡ self.old.word.is_pinned }
-        ensures users { SetAt (has_session self.old.users.mask) session false (has_session self.new.users.mask) }
+        ensures users { SetAt (has_session self.old.users.mask) session false
+            (has_session self.new.users.mask) }
         ensures lockers { self.new.lockers.mask ≡ self.old.lockers.mask }
     {
         self.users.remove(session);
@@ -91,7 +93,8 @@ impl Entry {
         requires { IsSession session }
         ensures epoch { self.new.word.epoch ≡ self.old.word.epoch }
         ensures pin { self.new.word.is_pinned ≡ self.old.word.is_pinned }
-        ensures users { SetAt (has_session self.old.users.mask) session false (has_session self.new.users.mask) }
+        ensures users { SetAt (has_session self.old.users.mask) session false
+            (has_session self.new.users.mask) }
         ensures lockers { SetAt (has_session self.old.lockers.mask) session false
             (has_session self.new.lockers.mask) }
     {

@@ -57,8 +57,10 @@ pub trait Keeper {
             SetAt (epochs self.old) patch (epochs self.old patch + 1) (epochs self.new) }
         ensures without { has_words ≡ false → Stays (epochs self.old) (epochs self.new) }
         ensures pins { Stays (pinned self.old) (pinned self.new) }
-        ensures use_sets { tells_sets ≡ true → SetsStay (session_uses self.old) (session_uses self.new) }
-        ensures lock_sets { tells_sets ≡ true → SetsStay (session_locks self.old) (session_locks self.new) }
+        ensures use_sets { tells_sets ≡ true
+            → SetsStay (session_uses self.old) (session_uses self.new) }
+        ensures lock_sets { tells_sets ≡ true
+            → SetsStay (session_locks self.old) (session_locks self.new) }
         ensures misses { tells_misses ≡ true → misses self.new ≡ misses self.old }
         ensures place { (place self.new ≡ place self.old) × (patches self.new ≡ patches self.old) };
 
@@ -77,9 +79,12 @@ pub trait Keeper {
             (epochs self.new) }
         ensures without { has_words ≡ false → Stays (epochs self.old) (epochs self.new) }
         ensures pins { Stays (pinned self.old) (pinned self.new) }
-        ensures use_sets { tells_sets ≡ true → SetsStay (session_uses self.old) (session_uses self.new) }
-        ensures lock_sets { tells_sets ≡ true → SetsStay (session_locks self.old) (session_locks self.new) }
-        ensures misses { tells_misses ≡ true → misses self.new ≡ misses self.old ++ misses_of result patch }
+        ensures use_sets { tells_sets ≡ true
+            → SetsStay (session_uses self.old) (session_uses self.new) }
+        ensures lock_sets { tells_sets ≡ true
+            → SetsStay (session_locks self.old) (session_locks self.new) }
+        ensures misses { tells_misses ≡ true
+            → misses self.new ≡ misses self.old ++ misses_of result patch }
         ensures place { (place self.new ≡ place self.old) × (patches self.new ≡ patches self.old) };
 }
 

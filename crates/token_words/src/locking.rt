@@ -62,11 +62,14 @@ pub trait Tokens {
         requires patch { patch < patches self.old }
         requires free { uses self.old pass.old patch ≡ false }
         ensures pass { IsPass self.new pass.new }
-        ensures number { (number pass.new ≡ number pass.old) × (pass_table pass.new ≡ pass_table pass.old) }
+        ensures number { (number pass.new ≡ number pass.old)
+            × (pass_table pass.new ≡ pass_table pass.old) }
         ensures words { (table self.new ≡ table self.old) × (patches self.new ≡ patches self.old) }
         ensures uses { SetAt (uses self.old pass.old) patch true (uses self.new pass.new) }
-        ensures locks { SetAt (locks self.old pass.old) patch (is_odd result.epoch) (locks self.new pass.new) }
-        ensures tries { tells_tries ≡ true → tries pass.new ≡ tries pass.old ++ (patch, result.epoch) ∷ [] }
+        ensures locks { SetAt (locks self.old pass.old) patch (is_odd result.epoch)
+            (locks self.new pass.new) }
+        ensures tries { tells_tries ≡ true
+            → tries pass.new ≡ tries pass.old ++ (patch, result.epoch) ∷ [] }
         ensures epoch { tells_epochs ≡ true → result.epoch ≡ epochs self.old patch }
         ensures epochs { tells_epochs ≡ true → Stays (epochs self.old) (epochs self.new) }
         ensures use_sets { tells_sets ≡ true →
@@ -82,7 +85,8 @@ pub trait Tokens {
         requires tried { uses self.old pass.old patch ≡ true }
         requires refused { locks self.old pass.old patch ≡ false }
         ensures pass { IsPass self.new pass.new }
-        ensures number { (number pass.new ≡ number pass.old) × (pass_table pass.new ≡ pass_table pass.old) }
+        ensures number { (number pass.new ≡ number pass.old)
+            × (pass_table pass.new ≡ pass_table pass.old) }
         ensures words { (table self.new ≡ table self.old) × (patches self.new ≡ patches self.old) }
         ensures uses { SetAt (uses self.old pass.old) patch false (uses self.new pass.new) }
         ensures locks { Stays (locks self.old pass.old) (locks self.new pass.new) }
@@ -100,7 +104,8 @@ pub trait Tokens {
         requires patch { patch < patches self.old }
         requires locked { locks self.old pass.old patch ≡ true }
         ensures pass { IsPass self.new pass.new }
-        ensures number { (number pass.new ≡ number pass.old) × (pass_table pass.new ≡ pass_table pass.old) }
+        ensures number { (number pass.new ≡ number pass.old)
+            × (pass_table pass.new ≡ pass_table pass.old) }
         ensures words { (table self.new ≡ table self.old) × (patches self.new ≡ patches self.old) }
         ensures uses { SetAt (uses self.old pass.old) patch false (uses self.new pass.new) }
         ensures locks { SetAt (locks self.old pass.old) patch false (locks self.new pass.new) }
@@ -120,8 +125,9 @@ pub trait Tokens {
     ghost uses_are_sets: { tells_sets ≡ true → (words : Self) (pass : Self.Pass) → IsPass words pass
         → (patch : ℕ) → uses words pass patch ≡ session_uses words (number pass) patch };
 
-    ghost locks_are_sets: { tells_sets ≡ true → (words : Self) (pass : Self.Pass) → IsPass words pass
-        → (patch : ℕ) → locks words pass patch ≡ session_locks words (number pass) patch };
+    ghost locks_are_sets: { tells_sets ≡ true → (words : Self) (pass : Self.Pass)
+        → IsPass words pass → (patch : ℕ)
+        → locks words pass patch ≡ session_locks words (number pass) patch };
 }
 
 #[cfg(test)]

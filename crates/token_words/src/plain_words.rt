@@ -135,7 +135,8 @@ impl Tokens for PlainTokens {
         self.entries[patch as usize].unlock(pass.session);
     }
 
-    ghost locks_are_uses = { λ words pass patch _. is_user-of_locker words (session_of pass) patch };
+    ghost locks_are_uses = { λ words pass patch _.
+        is_user-of_locker words (session_of pass) patch };
 
     ghost uses_are_sets = { λ _ _ _ _ _. refl };
 

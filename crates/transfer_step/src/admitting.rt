@@ -39,7 +39,9 @@ fn is_admissible<B: Supply, K: Keeper>(
     requires index { patch < length (sizes_of index.now) }
     requires supply { patch < length (B.sizes (B.place below.now)) }
     requires words { K.has_words ≡ true → patch < K.patches keeper.now }
-    ensures { result ≡ may_come (told_of (B.has (B.place below.now)) K.has_words (K.epochs keeper.now)) (sizes_of index.now) room patch }
+    ensures { result
+        ≡ may_come (told_of (B.has (B.place below.now)) K.has_words (K.epochs keeper.now))
+        (sizes_of index.now) room patch }
 {
     body_size(index, patch) <= room && below.has(patch) && may_rise(keeper, patch)
 }
@@ -48,7 +50,9 @@ fn is_admissible<B: Supply, K: Keeper>(
 /// test answers which patches are admissible.
 fn find_missing<F: Fn(u32) -> bool>(tier: &mut Tier, fits: F) -> Option<u32>
     requires { (p : ℕ) → p < count tier.old.state → F.pre fits p }
-    ensures candidate { (told : Told) → ((p : ℕ) (answer : Bool) → p < count tier.old.state → F.post fits p answer → is_admissible told tier.old.state p ≡ answer)
+    ensures candidate { (told : Told)
+        → ((p : ℕ) (answer : Bool) → p < count tier.old.state → F.post fits p answer
+        → is_admissible told tier.old.state p ≡ answer)
         → result ≡ candidate told tier.old.state }
     ensures same { tier.new.state ≡ tier.old.state }
     ensures spare { tier.new.spare ≡ tier.old.spare }
@@ -66,7 +70,9 @@ fn find_candidate<B: Supply, K: Keeper>(
     requires index { sizes_of index.now ≡ tier.old.state.sizes }
     requires supply { B.sizes (B.place below.now) ≡ tier.old.state.sizes }
     requires words { K.has_words ≡ true → count tier.old.state ≤ K.patches keeper.now }
-    ensures candidate { result ≡ candidate (told_of (B.has (B.place below.now)) K.has_words (K.epochs keeper.now)) tier.old.state }
+    ensures candidate { result
+        ≡ candidate (told_of (B.has (B.place below.now)) K.has_words (K.epochs keeper.now))
+        tier.old.state }
     ensures same { tier.new.state ≡ tier.old.state }
     ensures spare { tier.new.spare ≡ tier.old.spare }
 {
@@ -77,7 +83,10 @@ fn find_candidate<B: Supply, K: Keeper>(
             requires index { patch < length (sizes_of index.now) }
             requires supply { patch < length (B.sizes (B.place below.now)) }
             requires words { K.has_words ≡ true → patch < K.patches keeper.now }
-            ensures { result ≡ may_come (told_of (B.has (B.place below.entry.now)) K.has_words (K.epochs keeper.entry.now)) (sizes_of index.entry.now) room patch }
+            ensures { result
+                ≡ may_come
+                (told_of (B.has (B.place below.entry.now)) K.has_words
+                (K.epochs keeper.entry.now)) (sizes_of index.entry.now) room patch }
         { is_admissible(index, below, keeper, room, patch) },
     )
 }
@@ -92,7 +101,9 @@ pub fn seek<B: Supply, K: Keeper>(
     requires index { sizes_of index.now ≡ tier.old.state.sizes }
     requires supply { B.sizes (B.place below.now) ≡ tier.old.state.sizes }
     requires words { K.has_words ≡ true → count tier.old.state ≤ K.patches keeper.now }
-    ensures sought { result ≡ sought (told_of (B.has (B.place below.now)) K.has_words (K.epochs keeper.now)) tier.old.state }
+    ensures sought { result
+        ≡ sought (told_of (B.has (B.place below.now)) K.has_words (K.epochs keeper.now))
+        tier.old.state }
     ensures same { tier.new.state ≡ tier.old.state }
     ensures spare { tier.new.spare ≡ tier.old.spare }
 {

@@ -33,18 +33,27 @@ fn evict<K: Keeper>(tier: &mut Tier, keeper: &mut K, patch: u32) -> Turn
     requires none_come { tier.old.state.coming ≡ [] }
     requires place { 1 ≤ tier.old.spare }
     requires words { K.has_words ≡ true → count tier.old.state ≤ K.patches keeper.old }
-    requires tied { K.has_words ≡ true → IsTied tier.old.state (K.epochs keeper.old) (K.pinned keeper.old) }
-    ensures answer { paired result tier.new.state ≡ evicting K.has_words tier.old.state patch (uses_in result) }
+    requires tied { K.has_words ≡ true
+        → IsTied tier.old.state (K.epochs keeper.old) (K.pinned keeper.old) }
+    ensures answer { paired result tier.new.state
+        ≡ evicting K.has_words tier.old.state patch (uses_in result) }
     ensures kind { IsLeaving result }
     ensures kept { IsTier tier.new.state }
     ensures epochs { TurnsEpochs K.has_words result (K.epochs keeper.old) (K.epochs keeper.new) }
-    ensures free { K.has_words ≡ true → K.tells_sets ≡ true → IfEvict result (λ p. session_count (λ session. K.session_uses keeper.old session p) ≡ 0) }
-    ensures found { K.has_words ≡ true → K.tells_sets ≡ true → IfKept result (λ p uses. uses ≡ session_count (λ session. K.session_uses keeper.old session p)) }
-    ensures misses { K.tells_misses ≡ true → K.misses keeper.new ≡ K.misses keeper.old ++ misses_in result }
+    ensures free { K.has_words ≡ true → K.tells_sets ≡ true
+        → IfEvict result (λ p. session_count (λ session. K.session_uses keeper.old session p) ≡ 0) }
+    ensures found { K.has_words ≡ true → K.tells_sets ≡ true
+        → IfKept result
+        (λ p uses. uses ≡ session_count (λ session. K.session_uses keeper.old session p)) }
+    ensures misses { K.tells_misses ≡ true
+        → K.misses keeper.new ≡ K.misses keeper.old ++ misses_in result }
     ensures pins { Stays (K.pinned keeper.old) (K.pinned keeper.new) }
-    ensures use_sets { K.tells_sets ≡ true → SetsStay (K.session_uses keeper.old) (K.session_uses keeper.new) }
-    ensures lock_sets { K.tells_sets ≡ true → SetsStay (K.session_locks keeper.old) (K.session_locks keeper.new) }
-    ensures keeper { (K.place keeper.new ≡ K.place keeper.old) × (K.patches keeper.new ≡ K.patches keeper.old) }
+    ensures use_sets { K.tells_sets ≡ true
+        → SetsStay (K.session_uses keeper.old) (K.session_uses keeper.new) }
+    ensures lock_sets { K.tells_sets ≡ true
+        → SetsStay (K.session_locks keeper.old) (K.session_locks keeper.new) }
+    ensures keeper { (K.place keeper.new ≡ K.place keeper.old)
+        × (K.patches keeper.new ≡ K.patches keeper.old) }
 {
     match keeper.evict(patch) {
         Evict::Gone => {
@@ -65,20 +74,30 @@ pub fn evict_or_rest<K: Keeper>(tier: &mut Tier, keeper: &mut K, ahead: Option<u
     requires none_come { tier.old.state.coming ≡ [] }
     requires place { 1 ≤ tier.old.spare }
     requires words { K.has_words ≡ true → count tier.old.state ≤ K.patches keeper.old }
-    requires tied { K.has_words ≡ true → IsTied tier.old.state (K.epochs keeper.old) (K.pinned keeper.old) }
+    requires tied { K.has_words ≡ true
+        → IsTied tier.old.state (K.epochs keeper.old) (K.pinned keeper.old) }
     ensures answer { MatchOption (option_and_then (victim tier.old.state) ahead)
         (paired result tier.new.state ≡ paired Turn.Idle (calmed tier.old.state))
-        (λ p. paired result tier.new.state ≡ evicting K.has_words tier.old.state p (uses_in result)) }
+        (λ p.
+        paired result tier.new.state
+        ≡ evicting K.has_words tier.old.state p (uses_in result)) }
     ensures kind { IsLeaving result }
     ensures kept { IsTier tier.new.state }
     ensures epochs { TurnsEpochs K.has_words result (K.epochs keeper.old) (K.epochs keeper.new) }
-    ensures free { K.has_words ≡ true → K.tells_sets ≡ true → IfEvict result (λ p. session_count (λ session. K.session_uses keeper.old session p) ≡ 0) }
-    ensures found { K.has_words ≡ true → K.tells_sets ≡ true → IfKept result (λ p uses. uses ≡ session_count (λ session. K.session_uses keeper.old session p)) }
-    ensures misses { K.tells_misses ≡ true → K.misses keeper.new ≡ K.misses keeper.old ++ misses_in result }
+    ensures free { K.has_words ≡ true → K.tells_sets ≡ true
+        → IfEvict result (λ p. session_count (λ session. K.session_uses keeper.old session p) ≡ 0) }
+    ensures found { K.has_words ≡ true → K.tells_sets ≡ true
+        → IfKept result
+        (λ p uses. uses ≡ session_count (λ session. K.session_uses keeper.old session p)) }
+    ensures misses { K.tells_misses ≡ true
+        → K.misses keeper.new ≡ K.misses keeper.old ++ misses_in result }
     ensures pins { Stays (K.pinned keeper.old) (K.pinned keeper.new) }
-    ensures use_sets { K.tells_sets ≡ true → SetsStay (K.session_uses keeper.old) (K.session_uses keeper.new) }
-    ensures lock_sets { K.tells_sets ≡ true → SetsStay (K.session_locks keeper.old) (K.session_locks keeper.new) }
-    ensures keeper { (K.place keeper.new ≡ K.place keeper.old) × (K.patches keeper.new ≡ K.patches keeper.old) }
+    ensures use_sets { K.tells_sets ≡ true
+        → SetsStay (K.session_uses keeper.old) (K.session_uses keeper.new) }
+    ensures lock_sets { K.tells_sets ≡ true
+        → SetsStay (K.session_locks keeper.old) (K.session_locks keeper.new) }
+    ensures keeper { (K.place keeper.new ≡ K.place keeper.old)
+        × (K.patches keeper.new ≡ K.patches keeper.old) }
 {
     match find_victim(tier, ahead) {
         Some(patch) => evict(tier, keeper, patch),

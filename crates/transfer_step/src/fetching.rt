@@ -26,13 +26,19 @@ pub fn fetch_patch<B: Supply>(
     requires supply { B.sizes (B.place below.old) ≡ tier.old.state.sizes }
     requires bare { first_bare tier.old.state.coming ≡ Some patch }
     requires place { 1 ≤ tier.old.spare }
-    ensures answer { IfOk result (λ a. paired a tier.new.state ≡ fetching (B.has (B.place below.old) patch) tier.old.state patch (fetched_in a tier.new.state)) }
+    ensures answer { IfOk result
+        (λ a.
+        paired a tier.new.state
+        ≡ fetching (B.has (B.place below.old) patch) tier.old.state patch
+        (fetched_in a tier.new.state)) }
     ensures kind { IfOk result IsFetching }
     ensures none { OnErr result (tier.new.state ≡ tier.old.state) }
     ensures kept { IsTier tier.new.state }
     ensures brings { IfOk result (λ a. BringsBody tier.old.state.sizes a tier.new.state) }
-    ensures got { IfOk result (λ a. IfGot a (λ p. B.gives (B.place below.old) p (body_at tier.new.state p))) }
-    ensures fault { IfOk result (λ a. IfFault a (λ _. Rose (B.faults below.old) (B.faults below.new))) }
+    ensures got { IfOk result
+        (λ a. IfGot a (λ p. B.gives (B.place below.old) p (body_at tier.new.state p))) }
+    ensures fault { IfOk result
+        (λ a. IfFault a (λ _. Rose (B.faults below.old) (B.faults below.new))) }
     ensures changed { IfOk result (λ a. IfChanged a (B.finds (B.place below.old))) }
     ensures taken { B.tells_taken ≡ true → MatchResult result
         (λ a. TurnTakes tier.old.state.sizes a (B.taken below.old) (B.taken below.new))

@@ -30,15 +30,20 @@ fn commit_patch<K: Keeper>(tier: &mut Tier, keeper: &mut K, patch: u32)
     requires bodies { first_bare tier.old.state.coming ≡ None }
     requires place { 1 ≤ tier.old.spare }
     requires words { K.has_words ≡ true → count tier.old.state ≤ K.patches keeper.old }
-    requires tied { K.has_words ≡ true → IsTied tier.old.state (K.epochs keeper.old) (K.pinned keeper.old) }
+    requires tied { K.has_words ≡ true
+        → IsTied tier.old.state (K.epochs keeper.old) (K.pinned keeper.old) }
     ensures state { tier.new.state ≡ committed tier.old.state patch }
     ensures kept { IsTier tier.new.state }
-    ensures epochs { TurnsEpochs K.has_words (Turn.Commit patch) (K.epochs keeper.old) (K.epochs keeper.new) }
+    ensures epochs { TurnsEpochs K.has_words (Turn.Commit patch) (K.epochs keeper.old)
+        (K.epochs keeper.new) }
     ensures misses { K.tells_misses ≡ true → K.misses keeper.new ≡ K.misses keeper.old }
     ensures pins { Stays (K.pinned keeper.old) (K.pinned keeper.new) }
-    ensures use_sets { K.tells_sets ≡ true → SetsStay (K.session_uses keeper.old) (K.session_uses keeper.new) }
-    ensures lock_sets { K.tells_sets ≡ true → SetsStay (K.session_locks keeper.old) (K.session_locks keeper.new) }
-    ensures keeper { (K.place keeper.new ≡ K.place keeper.old) × (K.patches keeper.new ≡ K.patches keeper.old) }
+    ensures use_sets { K.tells_sets ≡ true
+        → SetsStay (K.session_uses keeper.old) (K.session_uses keeper.new) }
+    ensures lock_sets { K.tells_sets ≡ true
+        → SetsStay (K.session_locks keeper.old) (K.session_locks keeper.new) }
+    ensures keeper { (K.place keeper.new ≡ K.place keeper.old)
+        × (K.patches keeper.new ≡ K.patches keeper.old) }
 {
     let _ = tier.budget();
     keeper.admit(patch);
@@ -57,13 +62,19 @@ pub fn do_rule<B: Supply, K: Keeper>(
     requires supply { B.sizes (B.place below.old) ≡ tier.old.state.sizes }
     requires place { 1 ≤ tier.old.spare }
     requires words { K.has_words ≡ true → count tier.old.state ≤ K.patches keeper.old }
-    requires tied { K.has_words ≡ true → IsTied tier.old.state (K.epochs keeper.old) (K.pinned keeper.old) }
-    ensures answer { IfOk result (λ a. IsRankedTurn (told_of (B.has (B.place below.old)) K.has_words (K.epochs keeper.old)) tier.old.state a tier.new.state) }
+    requires tied { K.has_words ≡ true
+        → IsTied tier.old.state (K.epochs keeper.old) (K.pinned keeper.old) }
+    ensures answer { IfOk result
+        (λ a.
+        IsRankedTurn (told_of (B.has (B.place below.old)) K.has_words (K.epochs keeper.old))
+        tier.old.state a tier.new.state) }
     ensures none { OnErr result (tier.new.state ≡ tier.old.state) }
     ensures kept { IsTier tier.new.state }
     ensures brings { IfOk result (λ a. BringsBody tier.old.state.sizes a tier.new.state) }
-    ensures got { IfOk result (λ a. IfGot a (λ p. B.gives (B.place below.old) p (body_at tier.new.state p))) }
-    ensures fault { IfOk result (λ a. IfFault a (λ _. Rose (B.faults below.old) (B.faults below.new))) }
+    ensures got { IfOk result
+        (λ a. IfGot a (λ p. B.gives (B.place below.old) p (body_at tier.new.state p))) }
+    ensures fault { IfOk result
+        (λ a. IfFault a (λ _. Rose (B.faults below.old) (B.faults below.new))) }
     ensures changed { IfOk result (λ a. IfChanged a (B.finds (B.place below.old))) }
     ensures taken { B.tells_taken ≡ true → MatchResult result
         (λ a. TurnTakes tier.old.state.sizes a (B.taken below.old) (B.taken below.new))
@@ -73,15 +84,28 @@ pub fn do_rule<B: Supply, K: Keeper>(
     ensures epochs { MatchResult result
         (λ a. TurnsEpochs K.has_words a (K.epochs keeper.old) (K.epochs keeper.new))
         (λ _. Stays (K.epochs keeper.old) (K.epochs keeper.new)) }
-    ensures free { K.has_words ≡ true → K.tells_sets ≡ true → IfOk result (λ a. IfEvict a (λ p. session_count (λ session. K.session_uses keeper.old session p) ≡ 0)) }
-    ensures found { K.has_words ≡ true → K.tells_sets ≡ true → IfOk result (λ a. IfKept a (λ p uses. uses ≡ session_count (λ session. K.session_uses keeper.old session p))) }
+    ensures free { K.has_words ≡ true → K.tells_sets ≡ true
+        → IfOk result
+        (λ a.
+        IfEvict a
+        (λ p. session_count (λ session. K.session_uses keeper.old session p) ≡ 0)) }
+    ensures found { K.has_words ≡ true → K.tells_sets ≡ true
+        → IfOk result
+        (λ a.
+        IfKept a
+        (λ p uses.
+        uses
+        ≡ session_count (λ session. K.session_uses keeper.old session p))) }
     ensures misses { K.tells_misses ≡ true → MatchResult result
         (λ a. K.misses keeper.new ≡ K.misses keeper.old ++ misses_in a)
         (λ _. K.misses keeper.new ≡ K.misses keeper.old) }
     ensures pins { Stays (K.pinned keeper.old) (K.pinned keeper.new) }
-    ensures use_sets { K.tells_sets ≡ true → SetsStay (K.session_uses keeper.old) (K.session_uses keeper.new) }
-    ensures lock_sets { K.tells_sets ≡ true → SetsStay (K.session_locks keeper.old) (K.session_locks keeper.new) }
-    ensures keeper { (K.place keeper.new ≡ K.place keeper.old) × (K.patches keeper.new ≡ K.patches keeper.old) }
+    ensures use_sets { K.tells_sets ≡ true
+        → SetsStay (K.session_uses keeper.old) (K.session_uses keeper.new) }
+    ensures lock_sets { K.tells_sets ≡ true
+        → SetsStay (K.session_locks keeper.old) (K.session_locks keeper.new) }
+    ensures keeper { (K.place keeper.new ≡ K.place keeper.old)
+        × (K.patches keeper.new ≡ K.patches keeper.old) }
 {
     let _ = tier.budget();
     let ahead = seek(index, tier, below, keeper);

@@ -20,13 +20,20 @@ pub struct StoreSupply<'a, S: Store> {
     pub index: &'a Index,
     pub store: &'a mut S,
     pub file: u32,
-    ghost is_there: { HasFile (S.files store.now) file } by { HasFile-prop (S.files store.now) file },
+    ghost is_there: { HasFile (S.files store.now) file } by { HasFile-prop (S.files store.now)
+        file },
 }
 
 impl<'a, S: Store> Supply for StoreSupply<'a, S> {
     ghost Place = { StorePlace };
 
-    ghost place = { λ supply. record { index = supply.index.now; file = supply.file; files = S.files supply.store.now; lender = supply.store.ghost_name } };
+    ghost place = { λ supply.
+        record {
+          index = supply.index.now;
+          file = supply.file;
+          files = S.files supply.store.now;
+          lender = supply.store.ghost_name;
+        } };
 
     ghost sizes = { λ a. sizes_of a.index };
 

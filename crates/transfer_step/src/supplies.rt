@@ -45,12 +45,16 @@ pub trait Supply {
     /// Fetches the body of a patch.
     fn fetch(&mut self, alloc: Global, patch: u32) -> Result<Fetch, NoMemory>
         requires { patch < length (sizes (place self.old)) }
-        ensures body { IfOk result (λ fetch. IfBody fetch (IsBodyFor (sizes (place self.old)) patch)) }
+        ensures body { IfOk result
+            (λ fetch. IfBody fetch (IsBodyFor (sizes (place self.old)) patch)) }
         ensures given { IfOk result (λ fetch. IfBody fetch (gives (place self.old) patch)) }
         ensures lost { IfOk result (λ fetch. is_lost fetch ≡ not (has (place self.old) patch)) }
-        ensures fault { IfOk result (λ fetch. IfFault fetch (Rose (faults self.old) (faults self.new))) }
+        ensures fault { IfOk result
+            (λ fetch. IfFault fetch (Rose (faults self.old) (faults self.new))) }
         ensures changed { IfOk result (λ fetch. IfChanged fetch (finds (place self.old) patch)) }
-        ensures taken { tells_taken ≡ true → TakesUpTo (slice_index (sizes (place self.old)) patch) result (taken self.old) (taken self.new) }
+        ensures taken { tells_taken ≡ true
+            → TakesUpTo (slice_index (sizes (place self.old)) patch) result (taken self.old)
+            (taken self.new) }
         ensures later { faults self.old ≤ faults self.new }
         ensures place { place self.new ≡ place self.old };
 }

@@ -25,7 +25,8 @@ pub trait Sink {
         requires { 0 < length piece.now }
         ensures some { IfOk result (λ n. 1 ≤ n) }
         ensures bound { IfOk result (λ n. n ≤ length piece.now) }
-        ensures appends { IfOk result (λ n. written self.new ≡ appended (written self.old) (take n piece.now)) }
+        ensures appends { IfOk result
+            (λ n. written self.new ≡ appended (written self.old) (take n piece.now)) }
         ensures kept { OnErr result (written self.new ≡ written self.old) }
         ensures cause { HasCause (faults self.old) (faults self.new) ⊤ result };
 }

@@ -28,7 +28,8 @@ pub trait Store {
     fn find(&mut self, name: &str) -> Result<u32, Failed>
         ensures there { IfOk result (λ file. HasFile (files self.old) file) }
         ensures found { IfOk result (λ file. Finds (files self.old) name.now file) }
-        ensures cause { HasCause (faults self.old) (faults self.new) (HasName (files self.old) name.now) result }
+        ensures cause { HasCause (faults self.old) (faults self.new)
+            (HasName (files self.old) name.now) result }
         ensures kept { files self.new ≡ files self.old }
         ensures taken { taken self.new ≡ taken self.old };
 
@@ -38,7 +39,8 @@ pub trait Store {
         ensures bound { IfOk result (λ n. n ≤ length buffer.new) }
         ensures bytes { IfOk result (λ n. ReadsFile (files self.old) file offset buffer.new n) }
         ensures told { IfOk result (λ _. TellsBytes (files self.old) file) }
-        ensures cause { HasCause (faults self.old) (faults self.new) (HasFile (files self.old) file) result }
+        ensures cause { HasCause (faults self.old) (faults self.new) (HasFile (files self.old) file)
+            result }
         ensures kept { files self.new ≡ files self.old }
         ensures taken { MatchResult result
             (λ n. taken self.new ≡ taken_after (taken self.old) n)

@@ -45,7 +45,8 @@ impl LineReader {
         number: u32,
         line: &[u8],
     ) -> Result<Option<Line>, ScriptRefusal>
-        ensures value { Gives (λ read. read) result (line_in self.now.mode self.now.tiers (history_of self.now.sessions) number line.now) }
+        ensures value { Gives (λ read. read) result
+            (line_in self.now.mode self.now.tiers (history_of self.now.sessions) number line.now) }
         ensures numbered { IfOk result NamesSession }
         ensures unread { IfErr result IsNotReadFault }
     {
@@ -69,7 +70,10 @@ impl LineReader {
     // Adds the line of this number, if it has words.
     fn add_line(&mut self, alloc: Global, number: u32, line: &[u8]) -> Result<(), ScriptRefusal>
         ensures added { MatchResult result (λ _. AddsLine number line.now self.old self.new)
-            (λ refusal. Refuses refusal (line_in self.old.mode self.old.tiers (history_of self.old.sessions) number line.now)) }
+            (λ refusal.
+            Refuses refusal
+            (line_in self.old.mode self.old.tiers (history_of self.old.sessions) number
+            line.now)) }
         ensures unread { IfErr result IsNotReadFault }
     {
         match self.line_of(alloc, number, line) {
@@ -98,7 +102,8 @@ pub fn read_lines(
     bytes: &[u8],
 ) -> Result<Vec<Line>, ScriptRefusal>
     requires { length bytes.now ≤ MOST_SCRIPT }
-    ensures value { Gives (λ lines. lines.items) result (lines_in mode tiers no_sessions 1 (lines_of bytes.now)) }
+    ensures value { Gives (λ lines. lines.items) result
+        (lines_in mode tiers no_sessions 1 (lines_of bytes.now)) }
     ensures unread { IfErr result IsNotReadFault }
 {
     let mut reader = LineReader::new(alloc, mode, tiers);

@@ -34,7 +34,8 @@ impl Model for Script {
 
     ghost Value = { ScriptSeen };
 
-    ghost view = { λ script. record { lines = script.lines.items; mode = script.mode; tiers = script.tiers } };
+    ghost view = { λ script.
+        record { lines = script.lines.items; mode = script.mode; tiers = script.tiers } };
 
     ghost invariant = { λ script. AreLines script.mode script.tiers script.lines.items };
 }
@@ -74,7 +75,8 @@ impl Script {
 
     /// The lines that order this session, in their order.
     pub fn of_session(&self, alloc: Global, session: u32) -> Result<Vec<Line>, NoMemory>
-        ensures { IfOk result (λ lines. lines.items ≡ filter (is_of_session session) self.now.lines) }
+        ensures { IfOk result
+            (λ lines. lines.items ≡ filter (is_of_session session) self.now.lines) }
     {
         let mut lines = Vec::new(alloc);
         for line in &self.lines {
@@ -112,14 +114,17 @@ pub fn read_script<I: Source>(
     mode: Mode,
     tiers: u32,
 ) -> Result<Script, ScriptRefusal>
-    ensures exact { IfSome (I.rest source.old) (λ bytes. Gives (λ script. script.lines) result (script_in mode tiers bytes)) }
+    ensures exact { IfSome (I.rest source.old)
+        (λ bytes. Gives (λ script. script.lines) result (script_in mode tiers bytes)) }
     ensures mode { IfOk result (λ script. script.mode ≡ mode) }
     ensures tiers { IfOk result (λ script. script.tiers ≡ tiers) }
     ensures read { ReadsAtMost (MOST_SCRIPT + 1) (I.rest source.old) (I.rest source.new) }
-    ensures through { MatchResult result (λ _. ReadsThrough (MOST_SCRIPT + 1) (I.rest source.old) (I.rest source.new))
+    ensures through { MatchResult result
+        (λ _. ReadsThrough (MOST_SCRIPT + 1) (I.rest source.old) (I.rest source.new))
         (IfJudged (ReadsThrough (MOST_SCRIPT + 1) (I.rest source.old) (I.rest source.new))) }
     ensures later { I.faults source.old ≤ I.faults source.new }
-    ensures cause { IfErr result (OnlyIf ReadFault (Rose (I.faults source.old) (I.faults source.new))) }
+    ensures cause { IfErr result
+        (OnlyIf ReadFault (Rose (I.faults source.old) (I.faults source.new))) }
 {
     match read_bytes(alloc, source) {
         Ok(bytes) => script_of(alloc, mode, tiers, bytes.as_slice()),

@@ -25,11 +25,15 @@ fn read_piece<I: Source>(
     bytes: &mut Vec<u8>,
 ) -> Result<usize, ScriptRefusal>
     requires { 0 < length piece.old }
-    ensures added { IfOk result (λ n. AddsFirst n (length piece.old) (I.rest source.old) bytes.old.items bytes.new.items (I.rest source.new)) }
+    ensures added { IfOk result
+        (λ n.
+        AddsFirst n (length piece.old) (I.rest source.old) bytes.old.items bytes.new.items
+        (I.rest source.new)) }
     ensures end { IfOk result (λ n. n ≡ 0 → IsAtEnd (I.rest source.new)) }
     ensures read { ReadsAtMost (length piece.old) (I.rest source.old) (I.rest source.new) }
     ensures later { I.faults source.old ≤ I.faults source.new }
-    ensures cause { IfErr result (OnlyIf ReadFault (Rose (I.faults source.old) (I.faults source.new))) }
+    ensures cause { IfErr result
+        (OnlyIf ReadFault (Rose (I.faults source.old) (I.faults source.new))) }
     ensures unjudged { IfErr result IsUnjudged }
 {
     let n = match source.read(piece) {
@@ -43,11 +47,14 @@ fn read_piece<I: Source>(
 /// Reads until the source ends, or until it gave one byte more than a script has.
 pub fn read_bytes<I: Source>(alloc: Global, source: &mut I) -> Result<Vec<u8>, ScriptRefusal>
     ensures few { IfOk result (λ bytes. length bytes.items ≤ MOST_READ) }
-    ensures front { IfOk result (λ bytes. HasRead (I.rest source.old) bytes.items (I.rest source.new)) }
-    ensures through { IfOk result (λ _. ReadsThrough MOST_READ (I.rest source.old) (I.rest source.new)) }
+    ensures front { IfOk result
+        (λ bytes. HasRead (I.rest source.old) bytes.items (I.rest source.new)) }
+    ensures through { IfOk result
+        (λ _. ReadsThrough MOST_READ (I.rest source.old) (I.rest source.new)) }
     ensures read { ReadsAtMost MOST_READ (I.rest source.old) (I.rest source.new) }
     ensures later { I.faults source.old ≤ I.faults source.new }
-    ensures cause { IfErr result (OnlyIf ReadFault (Rose (I.faults source.old) (I.faults source.new))) }
+    ensures cause { IfErr result
+        (OnlyIf ReadFault (Rose (I.faults source.old) (I.faults source.new))) }
     ensures unjudged { IfErr result IsUnjudged }
 {
     let mut bytes = Vec::new(alloc);

@@ -29,7 +29,8 @@ fn add_point(alloc: Global, point: Point, out: &mut Vec<u8>) -> Result<(), NoMem
 
 // Appends a border fault's number and its node.
 fn add_border_node(alloc: Global, node: u32, out: &mut Vec<u8>) -> Result<(), NoMemory>
-    ensures ok { OnOk result (Adds out.old.items out.new.items (spaced (decimal 25 ∷ decimal node ∷ []))) }
+    ensures ok { OnOk result
+        (Adds out.old.items out.new.items (spaced (decimal 25 ∷ decimal node ∷ []))) }
     ensures err { OnErr result (Begins out.old.items out.new.items) }
 {
     let parts = [Part::Number(25), Part::Number(u64::from(node))];
@@ -38,7 +39,9 @@ fn add_border_node(alloc: Global, node: u32, out: &mut Vec<u8>) -> Result<(), No
 
 // Appends both nets, each behind a space.
 fn add_nets(alloc: Global, net_in: i64, net_out: i64, out: &mut Vec<u8>) -> Result<(), NoMemory>
-    ensures ok { OnOk result (Adds out.old.items out.new.items (spaced (signed_decimal net_in ∷ signed_decimal net_out ∷ []))) }
+    ensures ok { OnOk result
+        (Adds out.old.items out.new.items
+        (spaced (signed_decimal net_in ∷ signed_decimal net_out ∷ []))) }
     ensures err { OnErr result (Begins out.old.items out.new.items) }
 {
     let parts = [
@@ -58,7 +61,9 @@ fn add_border(
     net_out: i64,
     out: &mut Vec<u8>,
 ) -> Result<(), NoMemory>
-    ensures ok { OnOk result (Adds out.old.items out.new.items (spaced (texts.mesh_fault_words (Border node first second net_in net_out)))) }
+    ensures ok { OnOk result
+        (Adds out.old.items out.new.items
+        (spaced (texts.mesh_fault_words (Border node first second net_in net_out)))) }
     ensures err { OnErr result (Begins out.old.items out.new.items) }
 {
     add_border_node(alloc, node, out)?;
@@ -69,7 +74,8 @@ fn add_border(
 
 /// Appends a mesh fault's number and arguments, each behind a space.
 pub fn add_mesh_fault(alloc: Global, fault: DagFault, out: &mut Vec<u8>) -> Result<(), NoMemory>
-    ensures ok { OnOk result (Adds out.old.items out.new.items (spaced (texts.mesh_fault_words fault))) }
+    ensures ok { OnOk result
+        (Adds out.old.items out.new.items (spaced (texts.mesh_fault_words fault))) }
     ensures err { OnErr result (Begins out.old.items out.new.items) }
 {
     match fault {
@@ -110,7 +116,8 @@ pub fn add_script_fault(
     fault: ScriptFault,
     out: &mut Vec<u8>,
 ) -> Result<(), NoMemory>
-    ensures ok { OnOk result (Adds out.old.items out.new.items (spaced (decimals (texts.script_fault_numbers fault)))) }
+    ensures ok { OnOk result
+        (Adds out.old.items out.new.items (spaced (decimals (texts.script_fault_numbers fault)))) }
     ensures err { OnErr result (Begins out.old.items out.new.items) }
 {
     match fault {

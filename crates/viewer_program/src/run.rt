@@ -25,12 +25,17 @@ fn run_command<S: Store, O: Sink>(
     store: &mut S,
     sink: &mut O,
 ) -> Status
-    ensures told { IfSome (named_bytes (S.files store.old) name.now) (λ bytes.
-        Ends (IsOfAccepted (IsTextOf command) bytes) (StopsAt bytes) result (O.written sink.old) (O.written sink.new)) }
-    ensures statuses { Ends (IsTextOfKind command) (CanStop command) result (O.written sink.old) (O.written sink.new) }
+    ensures told { IfSome (named_bytes (S.files store.old) name.now)
+        (λ bytes.
+        Ends (IsOfAccepted (IsTextOf command) bytes) (StopsAt bytes) result
+        (O.written sink.old) (O.written sink.new)) }
+    ensures statuses { Ends (IsTextOfKind command) (CanStop command) result (O.written sink.old)
+        (O.written sink.new) }
     ensures changed { IsChange result }
     ensures quiet { IsQuiet result (O.written sink.old) (O.written sink.new) }
-    ensures read_fault { OnlyIf ReadFault (HasName (S.files store.old) name.now → Rose (S.faults store.old) (S.faults store.new)) result }
+    ensures read_fault { OnlyIf ReadFault
+        (HasName (S.files store.old) name.now → Rose (S.faults store.old) (S.faults store.new))
+        result }
     ensures missing { LacksName (S.files store.old) name.now → result ≡ ReadFault }
     ensures write_fault { OnlyIf WriteFault (Rose (O.faults sink.old) (O.faults sink.new)) result }
     ensures command { result ≡ Usage → ⊥ }
@@ -60,20 +65,27 @@ pub fn run_still<S: Store, I: Source, O: Sink>(
     // The words are no command exactly where the status is Usage.
     ensures usage { (result ≡ Usage) ↔ IsNone (command_in (map string_bytes words.now)) }
     // What each status means where the store tells the bytes of the named file.
-    ensures told { IfSome (command_in (map string_bytes words.now)) (λ command.
-        IfSome (named_bytes (S.files store.old) (name_in (map string_bytes words.now))) (λ bytes.
-        Ends (IsOfAccepted (IsTextOf command) bytes) (StopsAt bytes) result (O.written sink.old) (O.written sink.new))) }
+    ensures told { IfSome (command_in (map string_bytes words.now))
+        (λ command.
+        IfSome (named_bytes (S.files store.old) (name_in (map string_bytes words.now)))
+        (λ bytes.
+        Ends (IsOfAccepted (IsTextOf command) bytes) (StopsAt bytes) result
+        (O.written sink.old) (O.written sink.new))) }
     // Which statuses a row can have whatever the store tells. What it writes is a text of its kind.
-    ensures statuses { IfSome (command_in (map string_bytes words.now)) (λ command.
-        Ends (IsTextOfKind command) (CanStop command) result (O.written sink.old) (O.written sink.new)) }
+    ensures statuses { IfSome (command_in (map string_bytes words.now))
+        (λ command.
+        Ends (IsTextOfKind command) (CanStop command) result (O.written sink.old)
+        (O.written sink.new)) }
     // A change is told with a fault that the patch's body can have.
     ensures changed { IsChange result }
     // The script is left as it was.
-    ensures script { (I.rest _script.new ≡ I.rest _script.old) × (I.faults _script.new ≡ I.faults _script.old) }
+    ensures script { (I.rest _script.new ≡ I.rest _script.old)
+        × (I.faults _script.new ≡ I.faults _script.old) }
     // Nothing is written but where the status is Ok or WriteFault.
     ensures quiet { IsQuiet result (O.written sink.old) (O.written sink.new) }
     // A read fault comes only where the store failed, or tells that it has no file of that name,
-    ensures read_fault { OnlyIf ReadFault (HasName (S.files store.old) (name_in (map string_bytes words.now))
+    ensures read_fault { OnlyIf ReadFault
+        (HasName (S.files store.old) (name_in (map string_bytes words.now))
         → Rose (S.faults store.old) (S.faults store.new)) result }
     // and there it always comes.
     ensures missing { IfSome (command_in (map string_bytes words.now)) (λ _.

@@ -17,7 +17,8 @@ use std::alloc::Global;
 use text_model::{ScriptFault, Status};
 
 fn add_file_line(alloc: Global, fault: FileFault, out: &mut Vec<u8>) -> Result<(), NoMemory>
-    ensures ok { OnOk result (Adds out.old.items out.new.items (line_of (codes "file") (texts.file_fault_words fault))) }
+    ensures ok { OnOk result
+        (Adds out.old.items out.new.items (line_of (codes "file") (texts.file_fault_words fault))) }
     ensures err { OnErr result (Begins out.old.items out.new.items) }
 {
     begin_line(alloc, "file", out)?;
@@ -26,7 +27,8 @@ fn add_file_line(alloc: Global, fault: FileFault, out: &mut Vec<u8>) -> Result<(
 }
 
 fn add_mesh_line(alloc: Global, fault: DagFault, out: &mut Vec<u8>) -> Result<(), NoMemory>
-    ensures ok { OnOk result (Adds out.old.items out.new.items (line_of (codes "file") (texts.mesh_fault_words fault))) }
+    ensures ok { OnOk result
+        (Adds out.old.items out.new.items (line_of (codes "file") (texts.mesh_fault_words fault))) }
     ensures err { OnErr result (Begins out.old.items out.new.items) }
 {
     begin_line(alloc, "file", out)?;
@@ -35,7 +37,9 @@ fn add_mesh_line(alloc: Global, fault: DagFault, out: &mut Vec<u8>) -> Result<()
 }
 
 fn add_script_line(alloc: Global, fault: ScriptFault, out: &mut Vec<u8>) -> Result<(), NoMemory>
-    ensures ok { OnOk result (Adds out.old.items out.new.items (line_of (codes "script") (decimals (texts.script_fault_numbers fault)))) }
+    ensures ok { OnOk result
+        (Adds out.old.items out.new.items
+        (line_of (codes "script") (decimals (texts.script_fault_numbers fault)))) }
     ensures err { OnErr result (Begins out.old.items out.new.items) }
 {
     begin_line(alloc, "script", out)?;
@@ -49,7 +53,9 @@ fn add_changed_line(
     fault: FileFault,
     out: &mut Vec<u8>,
 ) -> Result<(), NoMemory>
-    ensures ok { OnOk result (Adds out.old.items out.new.items (line_of (codes "changed") (decimal patch ∷ texts.file_fault_words fault))) }
+    ensures ok { OnOk result
+        (Adds out.old.items out.new.items
+        (line_of (codes "changed") (decimal patch ∷ texts.file_fault_words fault))) }
     ensures err { OnErr result (Begins out.old.items out.new.items) }
 {
     begin_line(alloc, "changed", out)?;

@@ -45,8 +45,10 @@ fn text_of<S: Store>(
     file: u32,
 ) -> Result<Vec<u8>, LoadRefusal>
     requires { HasFile (S.files store.old) file }
-    ensures told { IfSome (file_bytes (S.files store.old) file) (λ bytes. (lists : FileLists) → file_in bytes ≡ Ok lists
-        → IsMeshOf lists mesh.now → GivesText (IsTextOf command lists mesh.now.lists.root) result) }
+    ensures told { IfSome (file_bytes (S.files store.old) file)
+        (λ bytes.
+        (lists : FileLists) → file_in bytes ≡ Ok lists → IsMeshOf lists mesh.now
+        → GivesText (IsTextOf command lists mesh.now.lists.root) result) }
     ensures kind { IfOk result (λ text. IsTextOfKind command text.items) }
     ensures stop { IfErr result (λ refusal. CanStop command (load_status refusal)) }
     ensures changed { IfErr result (λ refusal. IsChange (load_status refusal)) }
@@ -71,8 +73,10 @@ pub fn command_text<S: Store>(
     file: u32,
 ) -> Result<Vec<u8>, Status>
     requires { HasFile (S.files store.old) file }
-    ensures told { IfSome (file_bytes (S.files store.old) file) (λ bytes.
-        MatchResult result (λ text. IsOfAccepted (IsTextOf command) bytes text.items) (StopsAt bytes)) }
+    ensures told { IfSome (file_bytes (S.files store.old) file)
+        (λ bytes.
+        MatchResult result (λ text. IsOfAccepted (IsTextOf command) bytes text.items)
+        (StopsAt bytes)) }
     ensures kind { IfOk result (λ text. IsTextOfKind command text.items) }
     ensures stop { IfErr result (CanStop command) }
     ensures changed { IfErr result IsChange }

@@ -56,7 +56,10 @@ impl WishBoard {
     pub fn post<W: Want>(&mut self, mesh: &Mesh, session: u32, want: &W) -> Result<(), NoMemory>
         requires session { IsSession session }
         requires mesh { Fits self.old mesh.now.lists }
-        ensures posted { OnOk result (self.new ≡ with_view self.old session (Some (posted_view (W.scores want.now mesh.now.lists) (W.least want.now)))) }
+        ensures posted { OnOk result
+            (self.new
+            ≡ with_view self.old session
+            (Some (posted_view (W.scores want.now mesh.now.lists) (W.least want.now)))) }
         ensures refused { OnErr result (self.new ≡ self.old) }
     {
         let view = PostedView::of(*self.greatest.allocator(), mesh, want)?;

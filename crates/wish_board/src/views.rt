@@ -31,7 +31,8 @@ impl Model for PostedView {
 impl PostedView {
     /// What is wanted of the mesh.
     pub fn of<W: Want>(alloc: Global, mesh: &Mesh, want: &W) -> Result<PostedView, NoMemory>
-        ensures { IfOk result (λ view. view ≡ posted_view (W.scores want.now mesh.now.lists) (W.least want.now)) }
+        ensures { IfOk result
+            (λ view. view ≡ posted_view (W.scores want.now mesh.now.lists) (W.least want.now)) }
     {
         Ok(PostedView {
             scores: scores_of(alloc, mesh, want)?,

@@ -15,7 +15,11 @@ mod bodies;
 
 /// A node whose centre is (x, y, 0).
 fn node(x: i32, y: i32, radius: u32, error: u32) -> Node
-    ensures { result ≡ record { ball = record { centre = record { x = x; y = y; z = pos 0 }; radius = radius }; error = error } }
+    ensures { result
+        ≡ record {
+          ball = record { centre = record { x = x; y = y; z = pos 0 }; radius = radius };
+          error = error;
+        } }
 {
     let centre = point(x, y);
     Node {

@@ -23,16 +23,25 @@ impl<'m> Session<'m> {
         tokens: &mut T,
         pass: &mut T::Pass,
     ) -> Result<(), NoMemory>
-        requires pass { IsPassOf (T.IsPass tokens.old pass.old) (T.patches tokens.old) (T.uses tokens.old pass.old) (T.locks tokens.old pass.old) self.old }
+        requires pass { IsPassOf (T.IsPass tokens.old pass.old) (T.patches tokens.old)
+            (T.uses tokens.old pass.old) (T.locks tokens.old pass.old) self.old }
         requires view { (view : ViewSeen) × (self.old.state.view ≡ Some view) }
-        ensures pass { IsPassOf (T.IsPass tokens.new pass.new) (T.patches tokens.new) (T.uses tokens.new pass.new) (T.locks tokens.new pass.new) self.new }
-        ensures steps { TakesSteps T.tells_epochs (T.epochs tokens.old) T.tells_tries (T.tries pass.old) (T.tries pass.new) self.old result self.new }
+        ensures pass { IsPassOf (T.IsPass tokens.new pass.new) (T.patches tokens.new)
+            (T.uses tokens.new pass.new) (T.locks tokens.new pass.new) self.new }
+        ensures steps { TakesSteps T.tells_epochs (T.epochs tokens.old) T.tells_tries
+            (T.tries pass.old) (T.tries pass.new) self.old result self.new }
         ensures facts { IsSession self.new }
-        ensures number { (T.number pass.new ≡ T.number pass.old) × (T.pass_table pass.new ≡ T.pass_table pass.old) }
-        ensures words { (T.table tokens.new ≡ T.table tokens.old) × (T.patches tokens.new ≡ T.patches tokens.old) }
+        ensures number { (T.number pass.new ≡ T.number pass.old)
+            × (T.pass_table pass.new ≡ T.pass_table pass.old) }
+        ensures words { (T.table tokens.new ≡ T.table tokens.old)
+            × (T.patches tokens.new ≡ T.patches tokens.old) }
         ensures epochs { T.tells_epochs ≡ true → Stays (T.epochs tokens.old) (T.epochs tokens.new) }
-        ensures use_sets { T.tells_sets ≡ true → ChangesOnly (T.number pass.old) (T.session_uses tokens.old) (T.session_uses tokens.new) }
-        ensures lock_sets { T.tells_sets ≡ true → ChangesOnly (T.number pass.old) (T.session_locks tokens.old) (T.session_locks tokens.new) }
+        ensures use_sets { T.tells_sets ≡ true
+            → ChangesOnly (T.number pass.old) (T.session_uses tokens.old)
+            (T.session_uses tokens.new) }
+        ensures lock_sets { T.tells_sets ≡ true
+            → ChangesOnly (T.number pass.old) (T.session_locks tokens.old)
+            (T.session_locks tokens.new) }
         ensures pins { T.tells_sets ≡ true → Stays (T.pinned tokens.old) (T.pinned tokens.new) }
     {
         let _frames = self.frames;
@@ -47,16 +56,24 @@ impl<'m> Session<'m> {
     /// Takes a step towards no use: the round ends, and then the refused try is withdrawn or, if there is none,
     /// the least old lock is given back. None exactly where the session has no use.
     pub fn free_step<T: Tokens>(&mut self, tokens: &mut T, pass: &mut T::Pass) -> Option<Stepped>
-        requires pass { IsPassOf (T.IsPass tokens.old pass.old) (T.patches tokens.old) (T.uses tokens.old pass.old) (T.locks tokens.old pass.old) self.old }
-        ensures pass { IsPassOf (T.IsPass tokens.new pass.new) (T.patches tokens.new) (T.uses tokens.new pass.new) (T.locks tokens.new pass.new) self.new }
+        requires pass { IsPassOf (T.IsPass tokens.old pass.old) (T.patches tokens.old)
+            (T.uses tokens.old pass.old) (T.locks tokens.old pass.old) self.old }
+        ensures pass { IsPassOf (T.IsPass tokens.new pass.new) (T.patches tokens.new)
+            (T.uses tokens.new pass.new) (T.locks tokens.new pass.new) self.new }
         ensures step { TakesFreeStep self.old result self.new }
         ensures facts { IsSession self.new }
-        ensures number { (T.number pass.new ≡ T.number pass.old) × (T.pass_table pass.new ≡ T.pass_table pass.old) }
-        ensures words { (T.table tokens.new ≡ T.table tokens.old) × (T.patches tokens.new ≡ T.patches tokens.old) }
+        ensures number { (T.number pass.new ≡ T.number pass.old)
+            × (T.pass_table pass.new ≡ T.pass_table pass.old) }
+        ensures words { (T.table tokens.new ≡ T.table tokens.old)
+            × (T.patches tokens.new ≡ T.patches tokens.old) }
         ensures tries { T.tells_tries ≡ true → T.tries pass.new ≡ T.tries pass.old }
         ensures epochs { T.tells_epochs ≡ true → Stays (T.epochs tokens.old) (T.epochs tokens.new) }
-        ensures use_sets { T.tells_sets ≡ true → ChangesOnly (T.number pass.old) (T.session_uses tokens.old) (T.session_uses tokens.new) }
-        ensures lock_sets { T.tells_sets ≡ true → ChangesOnly (T.number pass.old) (T.session_locks tokens.old) (T.session_locks tokens.new) }
+        ensures use_sets { T.tells_sets ≡ true
+            → ChangesOnly (T.number pass.old) (T.session_uses tokens.old)
+            (T.session_uses tokens.new) }
+        ensures lock_sets { T.tells_sets ≡ true
+            → ChangesOnly (T.number pass.old) (T.session_locks tokens.old)
+            (T.session_locks tokens.new) }
         ensures pins { T.tells_sets ≡ true → Stays (T.pinned tokens.old) (T.pinned tokens.new) }
     {
         let _frames = self.frames;

@@ -25,16 +25,24 @@ use token_words::Tokens;
 impl<'m> Session<'m> {
     /// Ends the refused try of the patch.
     pub(super) fn withdraw<T: Tokens>(&mut self, tokens: &mut T, pass: &mut T::Pass, patch: u32)
-        requires pass { IsPassOf (T.IsPass tokens.old pass.old) (T.patches tokens.old) (T.uses tokens.old pass.old) (T.locks tokens.old pass.old) self.old }
+        requires pass { IsPassOf (T.IsPass tokens.old pass.old) (T.patches tokens.old)
+            (T.uses tokens.old pass.old) (T.locks tokens.old pass.old) self.old }
         requires there { self.old.state.flight ≡ Some patch }
-        ensures pass { IsPassOf (T.IsPass tokens.new pass.new) (T.patches tokens.new) (T.uses tokens.new pass.new) (T.locks tokens.new pass.new) self.new }
+        ensures pass { IsPassOf (T.IsPass tokens.new pass.new) (T.patches tokens.new)
+            (T.uses tokens.new pass.new) (T.locks tokens.new pass.new) self.new }
         ensures state { self.new ≡ with_state self.old (without_flight self.old.state) }
-        ensures number { (T.number pass.new ≡ T.number pass.old) × (T.pass_table pass.new ≡ T.pass_table pass.old) }
-        ensures words { (T.table tokens.new ≡ T.table tokens.old) × (T.patches tokens.new ≡ T.patches tokens.old) }
+        ensures number { (T.number pass.new ≡ T.number pass.old)
+            × (T.pass_table pass.new ≡ T.pass_table pass.old) }
+        ensures words { (T.table tokens.new ≡ T.table tokens.old)
+            × (T.patches tokens.new ≡ T.patches tokens.old) }
         ensures tries { T.tells_tries ≡ true → T.tries pass.new ≡ T.tries pass.old }
         ensures epochs { T.tells_epochs ≡ true → Stays (T.epochs tokens.old) (T.epochs tokens.new) }
-        ensures use_sets { T.tells_sets ≡ true → ChangesOnly (T.number pass.old) (T.session_uses tokens.old) (T.session_uses tokens.new) }
-        ensures lock_sets { T.tells_sets ≡ true → ChangesOnly (T.number pass.old) (T.session_locks tokens.old) (T.session_locks tokens.new) }
+        ensures use_sets { T.tells_sets ≡ true
+            → ChangesOnly (T.number pass.old) (T.session_uses tokens.old)
+            (T.session_uses tokens.new) }
+        ensures lock_sets { T.tells_sets ≡ true
+            → ChangesOnly (T.number pass.old) (T.session_locks tokens.old)
+            (T.session_locks tokens.new) }
         ensures pins { T.tells_sets ≡ true → Stays (T.pinned tokens.old) (T.pinned tokens.new) }
     {
         let _flight = self.flight;
@@ -67,18 +75,26 @@ impl<'m> Session<'m> {
 
     /// Gives the old lock of the patch back.
     pub(super) fn unlock_old<T: Tokens>(&mut self, tokens: &mut T, pass: &mut T::Pass, patch: u32)
-        requires pass { IsPassOf (T.IsPass tokens.old pass.old) (T.patches tokens.old) (T.uses tokens.old pass.old) (T.locks tokens.old pass.old) self.old }
+        requires pass { IsPassOf (T.IsPass tokens.old pass.old) (T.patches tokens.old)
+            (T.uses tokens.old pass.old) (T.locks tokens.old pass.old) self.old }
         requires there { least_old self.old.state ≡ Some patch }
         requires no_flight { self.old.state.flight ≡ None }
         requires going { self.old.state.printed ≡ false }
-        ensures pass { IsPassOf (T.IsPass tokens.new pass.new) (T.patches tokens.new) (T.uses tokens.new pass.new) (T.locks tokens.new pass.new) self.new }
+        ensures pass { IsPassOf (T.IsPass tokens.new pass.new) (T.patches tokens.new)
+            (T.uses tokens.new pass.new) (T.locks tokens.new pass.new) self.new }
         ensures state { self.new ≡ with_state self.old (without_old self.old.state patch) }
-        ensures number { (T.number pass.new ≡ T.number pass.old) × (T.pass_table pass.new ≡ T.pass_table pass.old) }
-        ensures words { (T.table tokens.new ≡ T.table tokens.old) × (T.patches tokens.new ≡ T.patches tokens.old) }
+        ensures number { (T.number pass.new ≡ T.number pass.old)
+            × (T.pass_table pass.new ≡ T.pass_table pass.old) }
+        ensures words { (T.table tokens.new ≡ T.table tokens.old)
+            × (T.patches tokens.new ≡ T.patches tokens.old) }
         ensures tries { T.tells_tries ≡ true → T.tries pass.new ≡ T.tries pass.old }
         ensures epochs { T.tells_epochs ≡ true → Stays (T.epochs tokens.old) (T.epochs tokens.new) }
-        ensures use_sets { T.tells_sets ≡ true → ChangesOnly (T.number pass.old) (T.session_uses tokens.old) (T.session_uses tokens.new) }
-        ensures lock_sets { T.tells_sets ≡ true → ChangesOnly (T.number pass.old) (T.session_locks tokens.old) (T.session_locks tokens.new) }
+        ensures use_sets { T.tells_sets ≡ true
+            → ChangesOnly (T.number pass.old) (T.session_uses tokens.old)
+            (T.session_uses tokens.new) }
+        ensures lock_sets { T.tells_sets ≡ true
+            → ChangesOnly (T.number pass.old) (T.session_locks tokens.old)
+            (T.session_locks tokens.new) }
         ensures pins { T.tells_sets ≡ true → Stays (T.pinned tokens.old) (T.pinned tokens.new) }
     {
         let _flight = self.flight;
@@ -89,7 +105,8 @@ impl<'m> Session<'m> {
     /// The round of the view, at its start.
     fn begun(&self, alloc: Global) -> Result<Refiner<'m>, NoMemory>
         requires view { (view : ViewSeen) × (self.now.state.view ≡ Some view) }
-        ensures { (view : ViewSeen) → self.now.state.view ≡ Some view → IfOk result (λ r. r ≡ begun_round self.now.mesh view) }
+        ensures { (view : ViewSeen) → self.now.state.view ≡ Some view
+            → IfOk result (λ r. r ≡ begun_round self.now.mesh view) }
     {
         match &self.view {
             Some(view) => Refiner::begin(alloc, self.mesh, view, view.limit()),
@@ -104,7 +121,12 @@ impl<'m> Session<'m> {
         requires no_old { (p : ℕ) → is_left_over self.old.state p ≡ false }
         requires no_flight { self.old.state.flight ≡ None }
         requires going { self.old.state.printed ≡ false }
-        ensures begun { (view : ViewSeen) → self.old.state.view ≡ Some view → IfOk result (λ _. self.new ≡ with_state self.old (with_round self.old.state (begun_round self.old.mesh view))) }
+        ensures begun { (view : ViewSeen) → self.old.state.view ≡ Some view
+            → IfOk result
+            (λ _.
+            self.new
+            ≡ with_state self.old
+            (with_round self.old.state (begun_round self.old.mesh view))) }
         ensures none { IfErr result (λ _. self.new ≡ self.old) }
         ensures same { HasSameUses self.old.state self.new.state }
     {
@@ -125,19 +147,29 @@ impl<'m> Session<'m> {
 
     /// Tries the patch that the round asks for, and returns the epoch that answers.
     fn try_patch<T: Tokens>(&mut self, tokens: &mut T, pass: &mut T::Pass, patch: u32) -> u32
-        requires pass { IsPassOf (T.IsPass tokens.old pass.old) (T.patches tokens.old) (T.uses tokens.old pass.old) (T.locks tokens.old pass.old) self.old }
+        requires pass { IsPassOf (T.IsPass tokens.old pass.old) (T.patches tokens.old)
+            (T.uses tokens.old pass.old) (T.locks tokens.old pass.old) self.old }
         requires asks { asked_of self.old.state ≡ Lock patch }
         requires no_flight { self.old.state.flight ≡ None }
         requires going { self.old.state.printed ≡ false }
-        ensures pass { IsPassOf (T.IsPass tokens.new pass.new) (T.patches tokens.new) (T.uses tokens.new pass.new) (T.locks tokens.new pass.new) self.new }
-        ensures state { (r : Refining) → self.old.state.round ≡ Some r → self.new ≡ with_state self.old (after_try self.old.state r patch result) }
-        ensures number { (T.number pass.new ≡ T.number pass.old) × (T.pass_table pass.new ≡ T.pass_table pass.old) }
-        ensures words { (T.table tokens.new ≡ T.table tokens.old) × (T.patches tokens.new ≡ T.patches tokens.old) }
-        ensures tries { T.tells_tries ≡ true → T.tries pass.new ≡ T.tries pass.old ++ (patch, result) ∷ [] }
+        ensures pass { IsPassOf (T.IsPass tokens.new pass.new) (T.patches tokens.new)
+            (T.uses tokens.new pass.new) (T.locks tokens.new pass.new) self.new }
+        ensures state { (r : Refining) → self.old.state.round ≡ Some r
+            → self.new ≡ with_state self.old (after_try self.old.state r patch result) }
+        ensures number { (T.number pass.new ≡ T.number pass.old)
+            × (T.pass_table pass.new ≡ T.pass_table pass.old) }
+        ensures words { (T.table tokens.new ≡ T.table tokens.old)
+            × (T.patches tokens.new ≡ T.patches tokens.old) }
+        ensures tries { T.tells_tries ≡ true
+            → T.tries pass.new ≡ T.tries pass.old ++ (patch, result) ∷ [] }
         ensures epoch { T.tells_epochs ≡ true → result ≡ T.epochs tokens.old patch }
         ensures epochs { T.tells_epochs ≡ true → Stays (T.epochs tokens.old) (T.epochs tokens.new) }
-        ensures use_sets { T.tells_sets ≡ true → ChangesOnly (T.number pass.old) (T.session_uses tokens.old) (T.session_uses tokens.new) }
-        ensures lock_sets { T.tells_sets ≡ true → ChangesOnly (T.number pass.old) (T.session_locks tokens.old) (T.session_locks tokens.new) }
+        ensures use_sets { T.tells_sets ≡ true
+            → ChangesOnly (T.number pass.old) (T.session_uses tokens.old)
+            (T.session_uses tokens.new) }
+        ensures lock_sets { T.tells_sets ≡ true
+            → ChangesOnly (T.number pass.old) (T.session_locks tokens.old)
+            (T.session_locks tokens.new) }
         ensures pins { T.tells_sets ≡ true → Stays (T.pinned tokens.old) (T.pinned tokens.new) }
     {
         let _flight = self.flight;
@@ -150,18 +182,27 @@ impl<'m> Session<'m> {
 
     /// Gives the lock back that the round asks for.
     fn give_back<T: Tokens>(&mut self, tokens: &mut T, pass: &mut T::Pass, patch: u32)
-        requires pass { IsPassOf (T.IsPass tokens.old pass.old) (T.patches tokens.old) (T.uses tokens.old pass.old) (T.locks tokens.old pass.old) self.old }
+        requires pass { IsPassOf (T.IsPass tokens.old pass.old) (T.patches tokens.old)
+            (T.uses tokens.old pass.old) (T.locks tokens.old pass.old) self.old }
         requires asks { asked_of self.old.state ≡ GiveBack patch }
         requires no_flight { self.old.state.flight ≡ None }
         requires going { self.old.state.printed ≡ false }
-        ensures pass { IsPassOf (T.IsPass tokens.new pass.new) (T.patches tokens.new) (T.uses tokens.new pass.new) (T.locks tokens.new pass.new) self.new }
-        ensures state { (r : Refining) → self.old.state.round ≡ Some r → self.new ≡ with_state self.old (with_round self.old.state (after_release r)) }
-        ensures number { (T.number pass.new ≡ T.number pass.old) × (T.pass_table pass.new ≡ T.pass_table pass.old) }
-        ensures words { (T.table tokens.new ≡ T.table tokens.old) × (T.patches tokens.new ≡ T.patches tokens.old) }
+        ensures pass { IsPassOf (T.IsPass tokens.new pass.new) (T.patches tokens.new)
+            (T.uses tokens.new pass.new) (T.locks tokens.new pass.new) self.new }
+        ensures state { (r : Refining) → self.old.state.round ≡ Some r
+            → self.new ≡ with_state self.old (with_round self.old.state (after_release r)) }
+        ensures number { (T.number pass.new ≡ T.number pass.old)
+            × (T.pass_table pass.new ≡ T.pass_table pass.old) }
+        ensures words { (T.table tokens.new ≡ T.table tokens.old)
+            × (T.patches tokens.new ≡ T.patches tokens.old) }
         ensures tries { T.tells_tries ≡ true → T.tries pass.new ≡ T.tries pass.old }
         ensures epochs { T.tells_epochs ≡ true → Stays (T.epochs tokens.old) (T.epochs tokens.new) }
-        ensures use_sets { T.tells_sets ≡ true → ChangesOnly (T.number pass.old) (T.session_uses tokens.old) (T.session_uses tokens.new) }
-        ensures lock_sets { T.tells_sets ≡ true → ChangesOnly (T.number pass.old) (T.session_locks tokens.old) (T.session_locks tokens.new) }
+        ensures use_sets { T.tells_sets ≡ true
+            → ChangesOnly (T.number pass.old) (T.session_uses tokens.old)
+            (T.session_uses tokens.new) }
+        ensures lock_sets { T.tells_sets ≡ true
+            → ChangesOnly (T.number pass.old) (T.session_locks tokens.old)
+            (T.session_locks tokens.new) }
         ensures pins { T.tells_sets ≡ true → Stays (T.pinned tokens.old) (T.pinned tokens.new) }
     {
         let _flight = self.flight;
@@ -188,19 +229,28 @@ impl<'m> Session<'m> {
 
     /// The round goes on: what it asks for is done.
     fn go_on<T: Tokens>(&mut self, tokens: &mut T, pass: &mut T::Pass) -> Stepped
-        requires pass { IsPassOf (T.IsPass tokens.old pass.old) (T.patches tokens.old) (T.uses tokens.old pass.old) (T.locks tokens.old pass.old) self.old }
+        requires pass { IsPassOf (T.IsPass tokens.old pass.old) (T.patches tokens.old)
+            (T.uses tokens.old pass.old) (T.locks tokens.old pass.old) self.old }
         requires round { (r : Refining) × (self.old.state.round ≡ Some r) }
         requires no_flight { self.old.state.flight ≡ None }
         requires going { self.old.state.printed ≡ false }
-        ensures pass { IsPassOf (T.IsPass tokens.new pass.new) (T.patches tokens.new) (T.uses tokens.new pass.new) (T.locks tokens.new pass.new) self.new }
+        ensures pass { IsPassOf (T.IsPass tokens.new pass.new) (T.patches tokens.new)
+            (T.uses tokens.new pass.new) (T.locks tokens.new pass.new) self.new }
         ensures step { GoesOn self.old result self.new }
-        ensures number { (T.number pass.new ≡ T.number pass.old) × (T.pass_table pass.new ≡ T.pass_table pass.old) }
-        ensures words { (T.table tokens.new ≡ T.table tokens.old) × (T.patches tokens.new ≡ T.patches tokens.old) }
-        ensures tries { T.tells_tries ≡ true → T.tries pass.new ≡ T.tries pass.old ++ try_pairs result }
+        ensures number { (T.number pass.new ≡ T.number pass.old)
+            × (T.pass_table pass.new ≡ T.pass_table pass.old) }
+        ensures words { (T.table tokens.new ≡ T.table tokens.old)
+            × (T.patches tokens.new ≡ T.patches tokens.old) }
+        ensures tries { T.tells_tries ≡ true
+            → T.tries pass.new ≡ T.tries pass.old ++ try_pairs result }
         ensures epoch { T.tells_epochs ≡ true → IsOfEpochs (T.epochs tokens.old) result }
         ensures epochs { T.tells_epochs ≡ true → Stays (T.epochs tokens.old) (T.epochs tokens.new) }
-        ensures use_sets { T.tells_sets ≡ true → ChangesOnly (T.number pass.old) (T.session_uses tokens.old) (T.session_uses tokens.new) }
-        ensures lock_sets { T.tells_sets ≡ true → ChangesOnly (T.number pass.old) (T.session_locks tokens.old) (T.session_locks tokens.new) }
+        ensures use_sets { T.tells_sets ≡ true
+            → ChangesOnly (T.number pass.old) (T.session_uses tokens.old)
+            (T.session_uses tokens.new) }
+        ensures lock_sets { T.tells_sets ≡ true
+            → ChangesOnly (T.number pass.old) (T.session_locks tokens.old)
+            (T.session_locks tokens.new) }
         ensures pins { T.tells_sets ≡ true → Stays (T.pinned tokens.old) (T.pinned tokens.new) }
     {
         match self.ask() {
@@ -222,19 +272,28 @@ impl<'m> Session<'m> {
         tokens: &mut T,
         pass: &mut T::Pass,
     ) -> Result<Stepped, NoMemory>
-        requires pass { IsPassOf (T.IsPass tokens.old pass.old) (T.patches tokens.old) (T.uses tokens.old pass.old) (T.locks tokens.old pass.old) self.old }
+        requires pass { IsPassOf (T.IsPass tokens.old pass.old) (T.patches tokens.old)
+            (T.uses tokens.old pass.old) (T.locks tokens.old pass.old) self.old }
         requires view { (view : ViewSeen) × (self.old.state.view ≡ Some view) }
-        ensures pass { IsPassOf (T.IsPass tokens.new pass.new) (T.patches tokens.new) (T.uses tokens.new pass.new) (T.locks tokens.new pass.new) self.new }
+        ensures pass { IsPassOf (T.IsPass tokens.new pass.new) (T.patches tokens.new)
+            (T.uses tokens.new pass.new) (T.locks tokens.new pass.new) self.new }
         ensures step { IfOk result (λ did. TakesStep self.old did self.new) }
         ensures none { IfErr result (λ _. Stops self.old self.new) }
         ensures facts { IsSession self.new }
-        ensures number { (T.number pass.new ≡ T.number pass.old) × (T.pass_table pass.new ≡ T.pass_table pass.old) }
-        ensures words { (T.table tokens.new ≡ T.table tokens.old) × (T.patches tokens.new ≡ T.patches tokens.old) }
-        ensures tries { T.tells_tries ≡ true → T.tries pass.new ≡ T.tries pass.old ++ tries_made result }
+        ensures number { (T.number pass.new ≡ T.number pass.old)
+            × (T.pass_table pass.new ≡ T.pass_table pass.old) }
+        ensures words { (T.table tokens.new ≡ T.table tokens.old)
+            × (T.patches tokens.new ≡ T.patches tokens.old) }
+        ensures tries { T.tells_tries ≡ true
+            → T.tries pass.new ≡ T.tries pass.old ++ tries_made result }
         ensures epoch { T.tells_epochs ≡ true → IfOk result (IsOfEpochs (T.epochs tokens.old)) }
         ensures epochs { T.tells_epochs ≡ true → Stays (T.epochs tokens.old) (T.epochs tokens.new) }
-        ensures use_sets { T.tells_sets ≡ true → ChangesOnly (T.number pass.old) (T.session_uses tokens.old) (T.session_uses tokens.new) }
-        ensures lock_sets { T.tells_sets ≡ true → ChangesOnly (T.number pass.old) (T.session_locks tokens.old) (T.session_locks tokens.new) }
+        ensures use_sets { T.tells_sets ≡ true
+            → ChangesOnly (T.number pass.old) (T.session_uses tokens.old)
+            (T.session_uses tokens.new) }
+        ensures lock_sets { T.tells_sets ≡ true
+            → ChangesOnly (T.number pass.old) (T.session_locks tokens.old)
+            (T.session_locks tokens.new) }
         ensures pins { T.tells_sets ≡ true → Stays (T.pinned tokens.old) (T.pinned tokens.new) }
     {
         if let Some(patch) = self.flight {
@@ -265,7 +324,8 @@ fn first_locked(locked: &[bool]) -> Option<usize>
 /// Tells the round the epoch that answers its try.
 fn tell(round: &mut Option<Refiner<'_>>, epoch: u32)
     requires { (patch : ℕ) × IsAsking round.old (Lock patch) }
-    ensures { (r : Refining) (patch : ℕ) → round.old ≡ Some r → pending_ask r ≡ Lock patch → round.new ≡ Some (after_answer r patch epoch) }
+    ensures { (r : Refining) (patch : ℕ) → round.old ≡ Some r → pending_ask r ≡ Lock patch
+        → round.new ≡ Some (after_answer r patch epoch) }
 {
     if let Some(round) = round {
         round.tell(epoch);

@@ -78,7 +78,8 @@ impl Tier {
         requires comes { IsSome (first_coming self.old.state.coming) }
         requires bodies { first_bare self.old.state.coming ≡ None }
         requires place { 1 ≤ self.old.spare }
-        ensures state { IfSome (first_coming self.old.state.coming) (λ p. self.new.state ≡ committed self.old.state p) }
+        ensures state { IfSome (first_coming self.old.state.coming)
+            (λ p. self.new.state ≡ committed self.old.state p) }
         ensures kept { IsTier self.new.state }
         ensures spare { self.new.spare + 1 ≡ self.old.spare }
     {
@@ -98,7 +99,8 @@ impl Tier {
     pub fn abort(&mut self, why: Abort)
         requires bare { IsSome (first_bare self.old.state.coming) }
         requires place { 1 ≤ self.old.spare }
-        ensures state { IfSome (first_bare self.old.state.coming) (λ p. self.new.state ≡ aborted self.old.state p why) }
+        ensures state { IfSome (first_bare self.old.state.coming)
+            (λ p. self.new.state ≡ aborted self.old.state p why) }
         ensures kept { IsTier self.new.state }
         ensures spare { self.new.spare + 1 ≡ self.old.spare }
     {

@@ -14,7 +14,9 @@ impl Tier {
     /// aside, and for which `fits` answers true. None exactly where there is none.
     pub fn greatest_missing<F: Fn(u32) -> bool>(&mut self, fits: F) -> Option<u32>
         requires callable { (p : ℕ) → p < count self.old.state → F.pre fits p }
-        ensures choice { ChoosesBy (count self.old.state) (λ p answer. OrAnswers (is_missing self.old.state p) (F.post fits p) answer) (outranks (kept_wish self.old.state)) result }
+        ensures choice { ChoosesBy (count self.old.state)
+            (λ p answer. OrAnswers (is_missing self.old.state p) (F.post fits p) answer)
+            (outranks (kept_wish self.old.state)) result }
         ensures same { self.new.state ≡ self.old.state }
         ensures spare { self.new.spare ≡ self.old.spare }
     {
@@ -25,7 +27,8 @@ impl Tier {
     /// None exactly where there is none.
     pub fn least_held(&self, below: u32) -> Option<u32>
         requires { below < count self.now.state }
-        ensures { Chooses (count self.now.state) (may_leave self.now.state below) (λ p q. outranks (kept_wish self.now.state) q p) result }
+        ensures { Chooses (count self.now.state) (may_leave self.now.state below)
+            (λ p q. outranks (kept_wish self.now.state) q p) result }
     {
         let mut least = None;
         for patch in 0..self.sizes.len() as u32 {
@@ -39,7 +42,9 @@ impl Tier {
     // The same as `greatest_missing`.
     fn best_missing<F: Fn(u32) -> bool>(&self, fits: F) -> Option<u32>
         requires { (p : ℕ) → p < count self.now.state → F.pre fits p }
-        ensures { ChoosesBy (count self.now.state) (λ p answer. OrAnswers (is_missing self.now.state p) (F.post fits p) answer) (outranks (kept_wish self.now.state)) result }
+        ensures { ChoosesBy (count self.now.state)
+            (λ p answer. OrAnswers (is_missing self.now.state p) (F.post fits p) answer)
+            (outranks (kept_wish self.now.state)) result }
     {
         let mut best = None;
         for patch in 0..self.sizes.len() as u32 {
@@ -65,7 +70,8 @@ impl Tier {
     fn is_above(&self, patch: u32, other: Option<u32>) -> bool
         requires patch { patch < count self.now.state }
         requires other { MatchOption other (Unit {0}) (λ o. o < count self.now.state) }
-        ensures { MatchOption other (result ≡ true) (λ o. result ≡ outranks (kept_wish self.now.state) patch o) }
+        ensures { MatchOption other (result ≡ true)
+            (λ o. result ≡ outranks (kept_wish self.now.state) patch o) }
     {
         match other {
             Some(other) => self.outranks(patch, other),
@@ -77,7 +83,8 @@ impl Tier {
     fn is_below(&self, patch: u32, other: Option<u32>) -> bool
         requires patch { patch < count self.now.state }
         requires other { MatchOption other (Unit {0}) (λ o. o < count self.now.state) }
-        ensures { MatchOption other (result ≡ true) (λ o. result ≡ outranks (kept_wish self.now.state) o patch) }
+        ensures { MatchOption other (result ≡ true)
+            (λ o. result ≡ outranks (kept_wish self.now.state) o patch) }
     {
         match other {
             Some(other) => self.outranks(other, patch),

@@ -64,7 +64,8 @@ fn strip_bodies(alloc: Global) -> Result<(Index, Vec<Arc<Body>>), Fail> {
 /// Whether the patch may be reserved, but for the journal's place.
 fn may_reserve(tier: &Tier, patch: u32) -> bool
     ensures needs { result ≡ true → Allows tier.now.state (Reserve patch) }
-    ensures room { result ≡ true → load tier.now.state + size tier.now.state patch ≤ tier.now.state.budget }
+    ensures room { result ≡ true
+        → load tier.now.state + size tier.now.state patch ≤ tier.now.state.budget }
 {
     if patch as usize >= tier.sizes.len() {
         return false;
@@ -86,7 +87,8 @@ fn may_pin(tier: &Tier, body: &Body) -> bool
     ensures away { result ≡ true → slice_get tier.now.state.held body.now.patch ≡ Some None }
     ensures begins { result ≡ true → tier.now.state.journal ≡ [] }
     ensures body { result ≡ true → IsBodyFor tier.now.state.sizes body.now.patch body.now }
-    ensures room { result ≡ true → load tier.now.state + length body.now.bytes ≤ tier.now.state.budget }
+    ensures room { result ≡ true
+        → load tier.now.state + length body.now.bytes ≤ tier.now.state.budget }
 {
     let patch = body.patch();
     if patch as usize >= tier.sizes.len() {

@@ -19,8 +19,10 @@ fn lock_up_to_refusal<T: Tokens>(tokens: &mut T, pass: &mut T::Pass, patches: &[
     ensures pass { T.IsPass tokens.new pass.new }
     ensures patches { T.patches tokens.new ≡ T.patches tokens.old }
     ensures within { result ≤ length patches.now }
-    ensures uses { Gains (T.uses tokens.old pass.old) (take result patches.now) (T.uses tokens.new pass.new) }
-    ensures locks { Gains (T.locks tokens.old pass.old) (take result patches.now) (T.locks tokens.new pass.new) }
+    ensures uses { Gains (T.uses tokens.old pass.old) (take result patches.now)
+        (T.uses tokens.new pass.new) }
+    ensures locks { Gains (T.locks tokens.old pass.old) (take result patches.now)
+        (T.locks tokens.new pass.new) }
     ensures epochs { T.tells_epochs ≡ true → Stays (T.epochs tokens.old) (T.epochs tokens.new) }
     ensures answer { T.tells_epochs ≡ true →
         (result == length patches.now)
@@ -67,7 +69,8 @@ pub fn are_there<T: Tokens>(tokens: &mut T, pass: &mut T::Pass, patches: &[u32])
     requires free { All (λ p. T.uses tokens.old pass.old p ≡ false) patches.now }
     ensures pass { T.IsPass tokens.new pass.new }
     ensures patches { T.patches tokens.new ≡ T.patches tokens.old }
-    ensures answer { T.tells_epochs ≡ true → result ≡ list_all (λ p. is_odd (T.epochs tokens.old p)) patches.now }
+    ensures answer { T.tells_epochs ≡ true
+        → result ≡ list_all (λ p. is_odd (T.epochs tokens.old p)) patches.now }
     ensures uses { Stays (T.uses tokens.old pass.old) (T.uses tokens.new pass.new) }
     ensures locks { Stays (T.locks tokens.old pass.old) (T.locks tokens.new pass.new) }
     ensures epochs { T.tells_epochs ≡ true → Stays (T.epochs tokens.old) (T.epochs tokens.new) }

@@ -92,12 +92,14 @@ impl Sink for MemorySink {
         requires { 0 < length piece.now }
         ensures some { IfOk result (λ n. 1 ≤ n) }
         ensures bound { IfOk result (λ n. n ≤ length piece.now) }
-        ensures appends { IfOk result (λ n. Some self.new.written ≡ appended (Some self.old.written) (take n piece.now)) }
+        ensures appends { IfOk result
+            (λ n. Some self.new.written ≡ appended (Some self.old.written) (take n piece.now)) }
         ensures kept { OnErr result (self.new.written ≡ self.old.written) }
         ensures cause { HasCause self.old.faults self.new.faults ⊤ result }
 
         ensures answer { result_ok result ≡ write_answer self.old (length piece.now) }
-        ensures after { self.new ≡ after_write self.old (take (result_unwrap_or result 0) piece.now) }
+        ensures after { self.new
+            ≡ after_write self.old (take (result_unwrap_or result 0) piece.now) }
     {
         let call_fails = self.fail_calls.count();
         let left = self.room - self.bytes.len();

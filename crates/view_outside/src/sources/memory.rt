@@ -68,7 +68,8 @@ impl Source for MemorySource {
     fn read(&mut self, buffer: &mut [u8]) -> Result<usize, Failed>
         requires { 0 < length buffer.old }
         ensures bound { IfOk result (λ n. n ≤ length buffer.new) }
-        ensures bytes { IfOk result (λ n. ReadsRest (Some self.old.rest) buffer.new n (Some self.new.rest)) }
+        ensures bytes { IfOk result
+            (λ n. ReadsRest (Some self.old.rest) buffer.new n (Some self.new.rest)) }
         ensures unread { OnErr result (self.new.rest ≡ self.old.rest) }
         ensures cause { HasCause self.old.faults self.new.faults ⊤ result }
 

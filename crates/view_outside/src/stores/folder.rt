@@ -43,7 +43,8 @@ impl<R: Files> Model for FolderStore<R> {
 
     ghost view = { λ store. record { faults = store.faults; taken = store.taken } };
 
-    ghost invariant = { λ store. (vec_len store.opened ≤ ROOM) × (ROOM ≤ vec_capacity store.opened) };
+    ghost invariant = { λ store.
+        (vec_len store.opened ≤ ROOM) × (ROOM ≤ vec_capacity store.opened) };
 }
 
 impl<R: Files + Drop> FolderStore<R> {

@@ -109,7 +109,8 @@ impl Store for MemoryStore {
     fn find(&mut self, name: &str) -> Result<u32, Failed>
         ensures there { IfOk result (λ file. HasFile (Some self.old.files) file) }
         ensures found { IfOk result (λ file. Finds (Some self.old.files) name.now file) }
-        ensures cause { HasCause self.old.faults self.new.faults (HasName (Some self.old.files) name.now) result }
+        ensures cause { HasCause self.old.faults self.new.faults
+            (HasName (Some self.old.files) name.now) result }
         ensures kept { self.new.files ≡ self.old.files }
         ensures taken { self.new.taken ≡ self.old.taken }
 
@@ -128,9 +129,11 @@ impl Store for MemoryStore {
     // The trait's clauses, and then what this store adds to them.
     fn read_at(&mut self, file: u32, offset: u64, buffer: &mut [u8]) -> Result<usize, Failed>
         ensures bound { IfOk result (λ n. n ≤ length buffer.new) }
-        ensures bytes { IfOk result (λ n. ReadsFile (Some self.old.files) file offset buffer.new n) }
+        ensures bytes { IfOk result
+            (λ n. ReadsFile (Some self.old.files) file offset buffer.new n) }
         ensures told { IfOk result (λ _. TellsBytes (Some self.old.files) file) }
-        ensures cause { HasCause self.old.faults self.new.faults (HasFile (Some self.old.files) file) result }
+        ensures cause { HasCause self.old.faults self.new.faults
+            (HasFile (Some self.old.files) file) result }
         ensures kept { self.new.files ≡ self.old.files }
         ensures taken { MatchResult result
             (λ n. self.new.taken ≡ taken_after self.old.taken n)

@@ -52,7 +52,9 @@ fn command_with_view(first: &str, name: &str, view: Option<View>) -> Option<Comm
 
 // The point that three words spell.
 fn read_point(x: &str, y: &str, z: &str) -> Option<Point>
-    ensures { result ≡ point_in (signed_in EYE_REACH x.now) (signed_in EYE_REACH y.now) (signed_in EYE_REACH z.now) }
+    ensures { result
+        ≡ point_in (signed_in EYE_REACH x.now) (signed_in EYE_REACH y.now)
+        (signed_in EYE_REACH z.now) }
 {
     let x = read_signed(x.as_bytes(), EYE_REACH)?;
     let y = read_signed(y.as_bytes(), EYE_REACH)?;
@@ -62,7 +64,9 @@ fn read_point(x: &str, y: &str, z: &str) -> Option<Point>
 
 // The view from an eye that three words spell.
 fn read_view(eye: Option<Point>, focal: &str, threshold: &str, limit: &str) -> Option<View>
-    ensures { result ≡ view_in eye (number_in GREATEST_FOCAL focal.now) (number_in GREATEST_THRESHOLD threshold.now) (number_in 4294967295 limit.now) }
+    ensures { result
+        ≡ view_in eye (number_in GREATEST_FOCAL focal.now)
+        (number_in GREATEST_THRESHOLD threshold.now) (number_in 4294967295 limit.now) }
 {
     let eye = eye?;
     let focal = read_number(focal.as_bytes(), u64::from(GREATEST_FOCAL))?;
