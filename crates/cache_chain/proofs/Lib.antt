@@ -1,0 +1,3 @@
+pub mod ListParts
+pub mod AnswerLaws
+pub mod TurnClauses
