@@ -56,11 +56,11 @@ changed_more P Q more (Fault p) is = tt
 changed_more P Q more (Commit p) is = tt
 changed_more P Q more Idle is = tt
 
-result_fault_more : {E : Type 0} (P Q : ℕ → Type 0) → ((p : ℕ) → P p → Q p) → (result : Result Turn E) → IfOk result (λ answer. IfFault answer P) → IfOk result (λ answer. IfFault answer Q)
+pub result_fault_more : {E : Type 0} (P Q : ℕ → Type 0) → ((p : ℕ) → P p → Q p) → (result : Result Turn E) → IfOk result (λ answer. IfFault answer P) → IfOk result (λ answer. IfFault answer Q)
 result_fault_more P Q more (Ok answer) is = fault_more P Q more answer is
 result_fault_more P Q more (Err e) is = tt
 
-result_changed_more : {E : Type 0} (P Q : ℕ → FileFault → Type 0) → ((p : ℕ) (fault : FileFault) → P p fault → Q p fault) → (result : Result Turn E) → IfOk result (λ answer. IfChanged answer P) → IfOk result (λ answer. IfChanged answer Q)
+pub result_changed_more : {E : Type 0} (P Q : ℕ → FileFault → Type 0) → ((p : ℕ) (fault : FileFault) → P p fault → Q p fault) → (result : Result Turn E) → IfOk result (λ answer. IfChanged answer P) → IfOk result (λ answer. IfChanged answer Q)
 result_changed_more P Q more (Ok answer) is = changed_more P Q more answer is
 result_changed_more P Q more (Err e) is = tt
 

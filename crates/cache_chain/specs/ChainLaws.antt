@@ -110,7 +110,7 @@ got_more P Q more (Changed p fault) got = tt
 got_more P Q more (Commit p) got = tt
 got_more P Q more Idle got = tt
 
-result_got_more : {E : Type 0} (P Q : ℕ → Type 0) → ((p : ℕ) → P p → Q p) → (result : Result Turn E) → IfOk result (λ answer. IfGot answer P) → IfOk result (λ answer. IfGot answer Q)
+pub result_got_more : {E : Type 0} (P Q : ℕ → Type 0) → ((p : ℕ) → P p → Q p) → (result : Result Turn E) → IfOk result (λ answer. IfGot answer P) → IfOk result (λ answer. IfGot answer Q)
 result_got_more P Q more (Ok answer) got = got_more P Q more answer got
 result_got_more P Q more (Err e) got = tt
 

@@ -6,3 +6,7 @@ pub mod BodyLaws
 pub mod ChainLaws
 pub mod TurnRuns
 pub mod RunLaws
+pub mod Opening
+pub mod Refusals
+pub mod BaseLaws
+pub mod SettleRuns

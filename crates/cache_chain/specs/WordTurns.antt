@@ -39,11 +39,11 @@ pub record TurnsWords {E : Type 0} (has_words tells_sets tells_misses : Bool) (r
 
 -- a turn of the lowest tier took so many bytes from the store, and where it answers that the store failed or that a
 -- patch has changed, it did
-pub record TurnsStore {E : Type 0} (finds : ℕ → FileFault → Type 0) (s : TierState) (result : Result Turn E) (faults later taken now : ℕ) : Type 0 where
-  pub later : faults ≤ later
-  pub fault : IfOk result (λ answer. IfFault answer (λ _. Rose faults later))
+pub record TurnsStore {E : Type 0} (finds : ℕ → FileFault → Type 0) (s : TierState) (result : Result Turn E) (faults faults_now bytes bytes_now : ℕ) : Type 0 where
+  pub later : faults ≤ faults_now
+  pub fault : IfOk result (λ answer. IfFault answer (λ _. Rose faults faults_now))
   pub changed : IfOk result (λ answer. IfChanged answer finds)
-  pub taken : MatchResult result (λ answer. TurnTakes s.sizes answer taken now) (λ _. RisesAtMost taken now (next_size s))
+  pub taken : MatchResult result (λ answer. TurnTakes s.sizes answer bytes bytes_now) (λ _. RisesAtMost bytes bytes_now (next_size s))
 
 -- no turn of a tier over another answers that the store failed or that a patch has changed
 pub record NeverFails {E : Type 0} (result : Result Turn E) : Type 0 where

@@ -102,7 +102,7 @@ impl<'a, S: Store> TierChain<'a, S> {
         requires { patch < length self.now.mesh.lists.index.fields }
         ensures { IfSome (slice_get self.now.tiers 0) (λ top. MatchOption result (slice_get top.held patch ≡ Some None) (λ body. slice_get top.held patch ≡ Some (Some (arc_value body.now)))) }
     {
-        self.tier(0).held(patch)
+        self.tiers[0].held(patch)
     }
 }
 

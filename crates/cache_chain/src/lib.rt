@@ -6,9 +6,12 @@
 #![tactic(auto)]
 
 mod chains;
+mod opening;
 mod parts;
+mod refusals;
 mod turning;
 
 pub use chains::TierChain;
 pub use parts::{ChainParts, TurnLine};
+pub use refusals::StartRefusal;
 pub use tier_budget::{Tier, Turn};

@@ -1,6 +1,6 @@
 //! One turn of a tier of a chain.
 
-ghost use Rattle.std.specs.Prelude.{◌≡◌, ℕ, suc, ◌<◌, ◌≤◌, true, Some, None, length, slice_get, ◌++◌, IfOk, OnErr, MatchResult};
+ghost use Rattle.std.specs.Prelude.{◌≡◌, ℕ, suc, ◌<◌, ◌≤◌, true, false, Some, None, length, slice_get, ◌++◌, IfOk, OnErr, MatchResult};
 ghost use Rattle.view_outside.specs.Faults.{Rose};
 ghost use Rattle.view_outside.specs.Files.{file_bytes};
 ghost use Rattle.view_outside.specs.Taken.{RisesAtMost};
@@ -14,6 +14,9 @@ ghost use Rattle.tier_model.specs.ChainLaws.{IsTopTied};
 ghost use Rattle.transfer_step.specs.TurnWords.{board_of, next_size, TurnTakes, misses_in};
 ghost use Rattle.cache_chain.specs.ChainStates.{IsFileBody, FindsChanged, IsChain};
 ghost use Rattle.cache_chain.specs.Turning.{chain_of, AllKeepWishes, AtLowest, GivesBelow, TakesWishes};
+ghost use Rattle.cache_chain.specs.WordTurns.{words_of};
+ghost use Rattle.cache_chain.specs.TurnRuns.{setting_of, moment_of, MakesTurn, RefusesTurn};
+ghost use Rattle.cache_chain.specs.SettleRuns.{MayTurn};
 
 use super::TierChain;
 use crate::turning::turn_among;
@@ -75,6 +78,61 @@ impl<'a, S: Store> TierChain<'a, S> {
         ensures lock_sets { K.tells_sets ≡ true → SetsStay (K.session_locks keeper.old) (K.session_locks keeper.new) }
         ensures keeper { (K.place keeper.new ≡ K.place keeper.old) × (K.patches keeper.new ≡ K.patches keeper.old) }
 
+        ensures mesh { self.new.mesh ≡ self.old.mesh }
+        ensures file { self.new.file ≡ self.old.file }
+        ensures lender { self.new.lender ≡ self.old.lender }
+    {
+        let _ = self.tier_count();
+        self.make_turn(alloc, tier, wishes, keeper)
+    }
+
+    /// The same, with all that it does as one fact.
+    pub(crate) fn make_turn<W: Wishes, K: Keeper>(
+        &mut self,
+        alloc: Global,
+        tier: u32,
+        wishes: &W,
+        keeper: &mut K,
+    ) -> Result<Turn, NoMemory>
+        requires has_words { K.has_words ≡ true }
+        requires tier { tier < length self.old.tiers }
+        requires patches { length self.old.mesh.lists.index.fields ≤ W.patches wishes.now }
+        requires may { MayTurn 
+            (setting_of (board_of (W.wish_of wishes.now) (W.version_of wishes.now)) K.tells_sets K.tells_misses
+            self.old.mesh.lists.index (file_bytes (S.files self.old.store) self.old.file)) 
+            (moment_of self.old.tiers
+            (words_of (K.patches keeper.old) (K.epochs keeper.old) (K.pinned keeper.old) (K.session_uses keeper.old) (K.session_locks keeper.old) (K.misses keeper.old))
+            (S.faults self.old.store) (S.taken self.old.store)) }
+        ensures made { IfOk result (λ answer. MakesTurn 
+            (setting_of (board_of (W.wish_of wishes.now) (W.version_of wishes.now)) K.tells_sets K.tells_misses
+            self.old.mesh.lists.index (file_bytes (S.files self.old.store) self.old.file)) tier answer 
+            (moment_of self.old.tiers
+            (words_of (K.patches keeper.old) (K.epochs keeper.old) (K.pinned keeper.old) (K.session_uses keeper.old) (K.session_locks keeper.old) (K.misses keeper.old))
+            (S.faults self.old.store) (S.taken self.old.store)) 
+            (moment_of self.new.tiers
+            (words_of (K.patches keeper.new) (K.epochs keeper.new) (K.pinned keeper.new) (K.session_uses keeper.new) (K.session_locks keeper.new) (K.misses keeper.new))
+            (S.faults self.new.store) (S.taken self.new.store))) }
+        ensures refused { OnErr result (RefusesTurn 
+            (setting_of (board_of (W.wish_of wishes.now) (W.version_of wishes.now)) K.tells_sets K.tells_misses
+            self.old.mesh.lists.index (file_bytes (S.files self.old.store) self.old.file)) tier 
+            (moment_of self.old.tiers
+            (words_of (K.patches keeper.old) (K.epochs keeper.old) (K.pinned keeper.old) (K.session_uses keeper.old) (K.session_locks keeper.old) (K.misses keeper.old))
+            (S.faults self.old.store) (S.taken self.old.store)) 
+            (moment_of self.new.tiers
+            (words_of (K.patches keeper.new) (K.epochs keeper.new) (K.pinned keeper.new) (K.session_uses keeper.new) (K.session_locks keeper.new) (K.misses keeper.new))
+            (S.faults self.new.store) (S.taken self.new.store))) }
+        ensures takes { OnErr result (TakesWishes (board_of (W.wish_of wishes.now) (W.version_of wishes.now)) tier self.old.tiers self.new.tiers) }
+        ensures may { MayTurn 
+            (setting_of (board_of (W.wish_of wishes.now) (W.version_of wishes.now)) K.tells_sets K.tells_misses
+            self.old.mesh.lists.index (file_bytes (S.files self.old.store) self.old.file)) 
+            (moment_of self.new.tiers
+            (words_of (K.patches keeper.new) (K.epochs keeper.new) (K.pinned keeper.new) (K.session_uses keeper.new) (K.session_locks keeper.new) (K.misses keeper.new))
+            (S.faults self.new.store) (S.taken self.new.store)) }
+        ensures tiers { length self.new.tiers ≡ length self.old.tiers }
+        ensures upper { (t : TierState) → slice_get self.old.tiers (suc tier) ≡ Some t → self.new.store ≡ self.old.store }
+        ensures files { S.files self.new.store ≡ S.files self.old.store }
+        ensures place { K.place keeper.new ≡ K.place keeper.old }
+        ensures facts { IsChain self.new.mesh.lists.index (S.files self.new.store) self.new.file self.new.tiers }
         ensures mesh { self.new.mesh ≡ self.old.mesh }
         ensures file { self.new.file ≡ self.old.file }
         ensures lender { self.new.lender ≡ self.old.lender }
