@@ -1,7 +1,7 @@
 -- Tiers in a list that was split behind one of them, and a list that was written through.
-use Rattle.std.proofs.Common.{◌≡◌, ℕ, zero, suc, ◌+◌, ◌<◌, List, [], ◌∷◌, ◌++◌, length, map, take, drop, Some, None, refl, sym, ap, subst, ◌∙◌, arith, append-nil}
+use Rattle.std.proofs.Common.{◌≡◌, ℕ, zero, suc, ◌+◌, ◌<◌, ◌≤◌, List, [], ◌∷◌, ◌++◌, length, map, take, drop, Some, None, refl, sym, ap, subst, ◌∙◌, arith, append-nil}
 use Rattle.std.specs.Prelude.{slice_get, slice_set, slice_index_or}
-use Rattle.std.proofs.lemmas.List.{length-set, map-set}
+use Rattle.std.proofs.lemmas.List.{length-set, length-map, map-set}
 use Rattle.tier_model.specs.Tiers.{TierState}
 use Rattle.tier_model.specs.BodyLaws.{get-set_same}
 use Rattle.tier_budget.specs.TierView.{TierSeen}
@@ -75,3 +75,6 @@ written_whole before now many = take_front now (drop (length now) before) (lengt
 -- the first was written
 pub first_written : (before : List TierSeen) (t : TierSeen) → states_of (take (length before) (slice_set before 0 t ++ drop (length (slice_set before 0 t)) before)) ≡ slice_set (states_of before) 0 t.state
 first_written before t = ap states_of (written_whole before (slice_set before 0 t) (length-set before 0 t)) ∙ map-set (λ (u : TierSeen). u.state) before 0 t
+
+pub many_states : (tiers : List TierSeen) → length (states_of tiers) ≤ 4 → length tiers ≤ 4
+many_states tiers few = let same = length-map tiers (λ (t : TierSeen). t.state) in omega arith

@@ -1,12 +1,12 @@
 -- What a turn of a tier among others says of the chain.
-use Rattle.std.proofs.Common.{◌≡◌, ◌≢◌, ℕ, zero, suc, ◌≤◌, Bool, true, false, List, ◌++◌, length, Option, Some, None, Result, Ok, Err, IfOk, OnErr, MatchResult, refl, sym, ap, subst, ◌∙◌, inl, inr, append-nil}
+use Rattle.std.proofs.Common.{◌≡◌, ◌≢◌, ℕ, zero, suc, ◌≤◌, Bool, true, false, List, ◌++◌, length, Option, Some, None, Result, Ok, Err, IfOk, OnErr, MatchResult, refl, sym, ap, subst, ◌∙◌, inl, inr, append-nil, arith}
 use Rattle.std.specs.Prelude.{slice_get, slice_set}
-use Rattle.std.proofs.lemmas.List.{length-set}
+use Rattle.std.proofs.lemmas.List.{length-set, length-map}
 use Rattle.view_outside.specs.Faults.{Rose}
-use Rattle.file_model.specs.Lists.{SeenBody}
+use Rattle.file_model.specs.Lists.{IndexLists, SeenBody, body_size}
 use Rattle.token_words.specs.Changes.{Stays}
 use Rattle.tier_model.specs.declared.turns.Turn.{Turn}
-use Rattle.tier_model.specs.Tiers.{TierState, body_at}
+use Rattle.tier_model.specs.Tiers.{TierState, body_at, sizes_of}
 use Rattle.tier_model.specs.Answers.{IfGot, IfLost, IfFault, IfChanged, IfKept}
 use Rattle.tier_model.specs.BodyLaws.{get-set_same}
 use Rattle.tier_model.specs.Turns.{Board}
@@ -16,7 +16,7 @@ use Rattle.tier_model.specs.ChainLaws.{IsTopTied}
 use Rattle.tier_model.specs.Settling.{TurnsAt}
 use Rattle.transfer_step.specs.TurnWords.{told_of, TurnsEpochs, misses_in}
 use Rattle.cache_chain.specs.ChainStates.{IsFileBody, FindsChanged, AreTiersOf}
-use Rattle.cache_chain.specs.Turning.{chain_of, AtLowest, GivesBelow, TurnsTier, TakesWishes}
+use Rattle.cache_chain.specs.Turning.{chain_of, HaveSizes, AtLowest, GivesBelow, TurnsTier, TakesWishes}
 use Rattle.cache_chain.specs.WordTurns.{WordsSeen, uses_of, TurnsWords, TurnsStore, NeverFails}
 use Rattle.cache_chain.specs.TurnRuns.{Setting, Moment, KeepsSets, MakesTurn, RefusesTurn}
 use Rattle.cache_chain.specs.SettleRuns.{MayTurn}
@@ -67,21 +67,21 @@ pub record StoreSays {E : Type 0} (u : Setting) (k : ℕ) (m n : Moment) (result
 abbrev pub TurnsOf : {E : Type 0} → Setting → ℕ → Bool → (ℕ → ℕ) → Result Turn E → List TierState → List TierState → Type 0
 TurnsOf u k words epochs result a b = TurnsTier u.board (told_of (has_below a k) words epochs) (GivesBelow (IsFileBody u.index u.bytes) a k) k result a b
 
+sets_stay : (u : Setting) (m n : Moment) → n.words ≡ m.words → KeepsSets u m.words n.words
+sets_stay u m n same = subst (KeepsSets u m.words) (sym same) (record { pins = λ p. refl; users = λ tells s p. refl; lockers = λ tells s p. refl; patches = refl })
+
 module _ {E : Type 0} (u : Setting) (k : ℕ) (m n : Moment) where
   fault_says : (result : Result Turn E) (before : TierState) → slice_get m.tiers k ≡ Some before → StoreSays u k m n result → IfOk result (λ answer. IfFault answer (λ _. AtLowest m.tiers k (Rose m.faults n.faults)))
-  fault_says result before was store = fault_at_lowest (Rose m.faults n.faults) result (slice_get m.tiers (suc k)) (λ none. (store.lowest none before was).fault) (λ t at. (store.upper t at).2.fault)
+  fault_says result before was store = fault_at_lowest (Rose m.faults n.faults) result (slice_get m.tiers (suc k)) (λ none. (store.lowest none before was).fault) (λ t at. (store.upper t at).2)
 
   changed_says : (result : Result Turn E) (before : TierState) → slice_get m.tiers k ≡ Some before → StoreSays u k m n result → IfOk result (λ answer. IfChanged answer (λ p fault. AtLowest m.tiers k (FindsChanged u.index u.bytes p fault)))
-  changed_says result before was store = changed_at_lowest (FindsChanged u.index u.bytes) result (slice_get m.tiers (suc k)) (λ none. (store.lowest none before was).changed) (λ t at. (store.upper t at).2.changed)
+  changed_says result before was store = changed_at_lowest (FindsChanged u.index u.bytes) result (slice_get m.tiers (suc k)) (λ none. (store.lowest none before was).changed) (λ t at. (store.upper t at).2)
 
   later_says : (result : Result Turn E) (before : TierState) → slice_get m.tiers k ≡ Some before → StoreSays u k m n result → m.faults ≤ n.faults
   later_says result before was store = later_anywhere m.faults n.faults (slice_get m.tiers (suc k)) (λ none. (store.lowest none before was).later) (λ t at. (store.upper t at).0)
 
   sets_says : (words : Bool) (result : Result Turn E) → TurnsWords words u.tells_sets u.tells_misses result m.words n.words → KeepsSets u m.words n.words
   sets_says words result says = record { pins = says.pins; users = says.users; lockers = says.lockers; patches = says.patches }
-
-  sets_stay : n.words ≡ m.words → KeepsSets u m.words n.words
-  sets_stay same = subst (KeepsSets u m.words) (sym same) (record { pins = λ p. refl; users = λ tells s p. refl; lockers = λ tells s p. refl; patches = refl })
 
   -- of the top tier
   pub makes_top : (words : Bool) (result : Result Turn E) → words ≡ true → k ≡ 0 → TurnsOf u k words m.words.epochs result m.tiers n.tiers → TurnsWords words u.tells_sets u.tells_misses result m.words n.words → StoreSays u k m n result → IfOk result (λ answer. MakesTurn u k answer m n)
@@ -116,7 +116,7 @@ module _ {E : Type 0} (u : Setting) (k : ℕ) (m n : Moment) where
     free = λ top _. absurd (lower top);
     found = λ _. found_lower {E = E} (λ p uses. uses ≡ uses_of m.words p) u.board (has_below m.tiers k) others (GivesBelow (IsFileBody u.index u.bytes) m.tiers k) k (Ok answer) m.tiers n.tiers turn;
     misses = λ _. ap (λ (a : WordsSeen). a.misses) same ∙ misses_lower {E = E} m.words.misses u.board (has_below m.tiers k) others (GivesBelow (IsFileBody u.index u.bytes) m.tiers k) k (Ok answer) m.tiers n.tiers turn;
-    sets = sets_stay same;
+    sets = sets_stay u m n same;
   }
 
   -- ---- refused
@@ -139,7 +139,7 @@ module _ {E : Type 0} (u : Setting) (k : ℕ) (m n : Moment) where
     tiers = inr (takes_wishes {E = E} u.board (told_of (has_below m.tiers k) false others) (GivesBelow (IsFileBody u.index u.bytes) m.tiers k) k (Err e) m.tiers n.tiers turn);
     epochs = λ p. ap (λ (a : WordsSeen). a.epochs p) same;
     misses = λ _. ap (λ (a : WordsSeen). a.misses) same;
-    sets = sets_stay same;
+    sets = sets_stay u m n same;
     taken = λ none s at. (store.lowest none s at).taken;
     upper = λ t at. (store.upper t at).1;
     later = later_says (Err e) turn.before turn.was store;
@@ -173,3 +173,11 @@ takes_at_error u k words epochs result a b turn = takes_wishes u.board (told_of 
 
 pub as_many_tiers : {E : Type 0} (u : Setting) (k : ℕ) (words : Bool) (epochs : ℕ → ℕ) (result : Result Turn E) (a b : List TierState) → TurnsOf u k words epochs result a b → length b ≡ length a
 as_many_tiers u k words epochs result a b turn = ap (λ (ts : List TierState). length ts) turn.is ∙ length-set a k turn.after
+
+-- ---- what a turn among tiers asks
+
+pub sizes_same : (index : IndexLists) (bytes : Option (List ℕ)) (tiers : List TierState) → AreTiersOf index bytes tiers → HaveSizes (sizes_of index) tiers
+sizes_same index bytes tiers are = record { each = λ k s at. (are.each k s at).made.sizes }
+
+pub fields_sized : (index : IndexLists) (n : ℕ) → length index.fields ≤ n → length (sizes_of index) ≤ n
+fields_sized index n few = let same = length-map index.fields (body_size index.version) in omega arith

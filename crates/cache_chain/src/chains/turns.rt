@@ -19,11 +19,11 @@ ghost use Rattle.cache_chain.specs.TurnRuns.{setting_of, moment_of, MakesTurn, R
 ghost use Rattle.cache_chain.specs.SettleRuns.{MayTurn};
 
 use super::TierChain;
-use crate::turning::turn_among;
+use crate::tier_turns::turn_tier;
 use grid_vertex::NoMemory;
 use std::alloc::Global;
 use tier_budget::{Turn, Wishes};
-use token_words::{Keeper, NoWords};
+use token_words::Keeper;
 use view_outside::Store;
 
 impl<'a, S: Store> TierChain<'a, S> {
@@ -138,10 +138,6 @@ impl<'a, S: Store> TierChain<'a, S> {
         ensures lender { self.new.lender ≡ self.old.lender }
     {
         let index = self.mesh.index();
-        if tier == 0 {
-            turn_among(alloc, index, &mut self.tiers, tier, self.store, self.file, wishes, keeper)
-        } else {
-            turn_among(alloc, index, &mut self.tiers, tier, self.store, self.file, wishes, &mut NoWords)
-        }
+        turn_tier(alloc, index, &mut self.tiers, tier, self.store, self.file, wishes, keeper)
     }
 }
