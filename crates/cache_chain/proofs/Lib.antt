@@ -6,3 +6,4 @@ pub mod Neighbours
 pub mod LoadedBodies
 pub mod OpenedLaws
 pub mod LogLaws
+pub mod TurnFacts

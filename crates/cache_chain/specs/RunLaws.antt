@@ -1,7 +1,6 @@
 -- What turns of a chain keep, one after the other.
-use Rattle.std.proofs.Common.{◌≡◌, ℕ, ◌≤◌, Bool, true, List, [], ◌∷◌, ◌++◌, refl, sym, ap, subst, ◌∙◌, arith, append_assoc, append-nil}
-use Rattle.std.specs.List.{flat_map}
-use Rattle.token_words.specs.Changes.{Stays, SetsStay}
+use Rattle.std.proofs.Common.{◌≡◌, ℕ, ◌≤◌, Bool, true, List, [], ◌∷◌, ◌++◌, refl, sym, ap, subst, ◌∙◌, inl, inr, arith, append_assoc, append-nil}
+use Rattle.view_outside.specs.Taken.{taken_after-zero}
 use Rattle.tier_model.specs.declared.turns.Turn.{Turn}
 use Rattle.cache_chain.specs.WordTurns.{WordsSeen}
 use Rattle.cache_chain.specs.TurnRuns.{Setting, Moment, KeepsSets, MakesTurn, MakesTurns, Begins, Then, RefusesTurn, StopsTurns}
@@ -49,3 +48,16 @@ faults_at_stop u m n made stops =
     let before = faults_later u m stops.last made stops.turns in
     let now = stops.refused.later in
     omega arith
+
+-- ---- a turn that didn't begin
+
+pub refuses_before : (u : Setting) (k : ℕ) (m : Moment) → RefusesTurn u k m m
+refuses_before u k m = record {
+  tiers = inl refl;
+  epochs = λ p. refl;
+  misses = λ tells. refl;
+  sets = sets_same u m.words;
+  taken = λ none s at. record { bytes = 0; below = omega arith; sum = sym (taken_after-zero m.taken) };
+  upper = λ t at. refl;
+  later = omega arith;
+}

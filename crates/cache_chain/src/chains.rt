@@ -106,4 +106,6 @@ impl<'a, S: Store> TierChain<'a, S> {
     }
 }
 
+mod settling;
+mod starting;
 mod turns;
