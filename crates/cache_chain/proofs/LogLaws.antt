@@ -1,5 +1,5 @@
 -- The log grows by the turns that are made.
-use Rattle.std.proofs.Common.{◌≡◌, ◌≢◌, ℕ, zero, suc, ◌+◌, ◌*◌, ◌≤◌, List, [], ◌∷◌, ◌++◌, length, Some, refl, sym, ap, subst, ◌∙◌, arith, append_assoc, append-nil}
+use Rattle.std.proofs.Common.{◌≡◌, ◌≢◌, ℕ, zero, suc, ◌+◌, ◌*◌, ◌<◌, ◌≤◌, List, [], ◌∷◌, ◌++◌, length, Some, Result, Ok, Err, OnErr, refl, sym, ap, subst, ◌∙◌, arith, append_assoc, append-nil}
 use Rattle.std.specs.Prelude.{slice_get}
 use Rattle.std.proofs.lemmas.List.{length_push, length-map, map-append}
 use Rattle.file_model.specs.Lists.{body_size}
@@ -92,3 +92,17 @@ half_ends u total l m old new so_far = record {
   settles = half-ends u.board total (chain_at l) (chain_at m) so_far.made so_far.half;
   turns = so_far.turns;
 }
+
+-- ---- where it begins, and what a refusal says whatever it is
+
+tier_there : (tiers : List TierState) (k : ℕ) → k < length tiers → (s : TierState) × (slice_get tiers k ≡ Some s)
+tier_there [] k within = absurd (omega arith)
+tier_there (t ∷ tiers) zero within = (t, refl)
+tier_there (t ∷ tiers) (suc k) within = tier_there tiers k (omega arith)
+
+pub midway_starts : (u : Setting) (k : ℕ) (m : Moment) (log : List TurnLine) → MayTurn u m → k < length m.tiers → LogsMidway u k 0 m m log log
+midway_starts u k m log may within = let there = tier_there m.tiers k within in midway_begins u k m there.0 log may there.1
+
+pub at_error : {T E : Type 0} (P : Type 0) (result : Result T E) → P → OnErr result P
+at_error P (Ok x) holds = tt
+at_error P (Err e) holds = holds

@@ -6,6 +6,7 @@ pub mod BodyLaws
 pub mod ChainLaws
 pub mod TurnRuns
 pub mod RunLaws
+pub mod OpeningFacts
 pub mod Opening
 pub mod Refusals
 pub mod BaseLaws

@@ -9,6 +9,7 @@ mod chains;
 mod opening;
 mod parts;
 mod refusals;
+mod settling;
 mod tier_turns;
 mod turning;
 

@@ -87,7 +87,7 @@ impl<'a, S: Store> TierChain<'a, S> {
     }
 
     /// The same, with all that it does as one fact.
-    pub(crate) fn make_turn<W: Wishes, K: Keeper>(
+    fn make_turn<W: Wishes, K: Keeper>(
         &mut self,
         alloc: Global,
         tier: u32,
