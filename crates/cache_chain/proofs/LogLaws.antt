@@ -8,7 +8,7 @@ use Rattle.tier_model.specs.declared.turns.Turn.TheVariants.{Idle}
 use Rattle.tier_model.specs.Tiers.{TierState, count}
 use Rattle.settling_laws.specs.Midway.{midway-begins, midway-turned, midway-idles, midway-few, half-begins, half-settled, half-ends, IsMidway}
 use Rattle.cache_chain.specs.declared.parts.TurnLine.{TurnLine}
-use Rattle.cache_chain.specs.TurnRuns.{Setting, Moment, chain_at, MakesTurn, MakesTurns, Begins, Then, RefusesTurn}
+use Rattle.cache_chain.specs.TurnRuns.{Setting, Moment, chain_at, MakesTurn, Begins, Then, RefusesTurn}
 use Rattle.cache_chain.specs.RunLaws.{makes_more, stops_more}
 use Rattle.cache_chain.specs.SettleRuns.{line_of, lines_of, MayTurn, LogsSettling, LogsStop, LogsTier, LogsMidway, LogsHalf}
 

@@ -1,5 +1,5 @@
 -- A tier's turn over what is next to it is a turn among the tiers.
-use Rattle.std.proofs.Common.{◌≡◌, ℕ, suc, Bool, true, List, Option, Some, None, Result, refl, sym, subst}
+use Rattle.std.proofs.Common.{◌≡◌, ℕ, suc, Bool, true, List, Option, Some, None, Result, sym, subst}
 use Rattle.std.specs.Prelude.{slice_get, slice_set, MatchOption}
 use Rattle.std.specs.Option.{option_map_or}
 use Rattle.file_model.specs.Lists.{SeenBody}

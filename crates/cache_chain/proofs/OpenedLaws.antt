@@ -1,5 +1,5 @@
 -- A chain that opens is a chain.
-use Rattle.std.proofs.Common.{◌≡◌, ℕ, zero, suc, ◌<◌, ◌≤◌, Bool, true, false, List, [], ◌∷◌, ◌++◌, length, map, take, drop, replicate, Option, Some, None, refl, sym, ap, ap₂, subst, ◌∙◌, arith}
+use Rattle.std.proofs.Common.{◌≡◌, ℕ, zero, suc, ◌<◌, ◌≤◌, false, List, [], ◌∷◌, ◌++◌, length, map, take, drop, replicate, Option, Some, refl, sym, ap, ap₂, subst, ◌∙◌, arith}
 use Rattle.std.specs.Prelude.{slice_get, slice_set, slice_index, slice_index_or, All, IfSome}
 use Rattle.std.specs.List.{AllByRecursion}
 use Rattle.std.proofs.lemmas.List.{length-map}
@@ -25,13 +25,13 @@ use Rattle.tier_model.specs.BodyLaws.{none_there}
 use Rattle.tier_model.specs.OpeningLaws.{IsTier-fresh, made-fresh, IsTier-opened_top, made-opened_top, each-opened}
 use Rattle.body_loads.specs.Loads.{AreBodiesAt, sizes_sum, patches_of}
 use Rattle.body_loads.specs.PatchLists.{chosen_below}
-use Rattle.cache_chain.specs.ChainStates.{states_of, HasBodies, IsFileBody, IsTierOf, AreTiersOf}
-use Rattle.cache_chain.specs.Opening.{IsOpened, with_pins, MayPinAll}
+use Rattle.cache_chain.specs.ChainStates.{states_of, IsFileBody, IsTierOf, AreTiersOf}
+use Rattle.cache_chain.specs.Opening.{IsOpened, with_pins}
 use Rattle.cache_chain.specs.BaseLaws.{base_leads_from_root}
 use Rattle.cache_chain.specs.Refusals.{refused_load, HasReason}
 use Rattle.cache_chain.proofs.ListParts.{first_written}
-use Rattle.cache_chain.proofs.PinLaws.{bytes_in, OpensTop, opens_top}
-use Rattle.cache_chain.proofs.LoadedBodies.{AreBelow, AreOwn, bodies_below, bodies_for, bytes_are, bodies_of_file, both_hold}
+use Rattle.cache_chain.proofs.PinLaws.{OpensTop, opens_top}
+use Rattle.cache_chain.proofs.LoadedBodies.{AreOwn, bodies_below, bodies_for, bytes_are, bodies_of_file, both_hold}
 
 -- of the patch, and of the file
 abbrev pub IsRight : IndexLists → Option (List ℕ) → ℕ → SeenBody → Type 0

@@ -1,6 +1,6 @@
 -- To pin the base patches in their order opens a tier.
 use Rattle.std.proofs.Common.{◌≡◌, ℕ, zero, suc, ◌+◌, ◌≤◌, Bool, true, false, List, [], ◌∷◌, ◌++◌, length, map, replicate, Option, Some, None, is_some, refl, sym, ap, ap₂, subst, ◌∙◌, inl, inr, arith, append_assoc, append-nil}
-use Rattle.std.specs.Prelude.{slice_get, slice_set, slice_index, slice_index_or, if◌then◌else◌}
+use Rattle.std.specs.Prelude.{slice_get, slice_set, slice_index, slice_index_or}
 use Rattle.std.specs.Option.{unwrap_or}
 use Rattle.std.specs.List.{AllByRecursion, sum_by}
 use Rattle.std.proofs.lemmas.Bool.{cases_Bool}
@@ -18,7 +18,7 @@ use Rattle.tier_model.specs.LoadLaws.{marked_more, marked_none}
 use Rattle.tier_model.specs.BodyLaws.{marks_of, none_there, each-set, away_is_unmarked, body_is_there, marks_of_nothing}
 use Rattle.tier_model.specs.OpeningLaws.{load_of_held}
 use Rattle.body_loads.specs.Loads.{patches_of}
-use Rattle.cache_chain.specs.Opening.{with_pins, MayPin, MayPinAll}
+use Rattle.cache_chain.specs.Opening.{with_pins, MayPinAll}
 
 -- ---- lists
 

@@ -1,13 +1,13 @@
 -- What a turn of a tier among others says of the chain.
-use Rattle.std.proofs.Common.{◌≡◌, ◌≢◌, ℕ, zero, suc, ◌≤◌, Bool, true, false, List, ◌++◌, length, Option, Some, None, Result, Ok, Err, IfOk, OnErr, MatchResult, refl, sym, ap, subst, ◌∙◌, inl, inr, append-nil, arith}
-use Rattle.std.specs.Prelude.{slice_get, slice_set}
+use Rattle.std.proofs.Common.{◌≡◌, ◌≢◌, ℕ, zero, suc, ◌≤◌, Bool, true, false, List, ◌++◌, length, Option, Some, None, Result, Ok, Err, IfOk, OnErr, MatchResult, refl, sym, ap, subst, ◌∙◌, inr, append-nil, arith}
+use Rattle.std.specs.Prelude.{slice_get}
 use Rattle.std.proofs.lemmas.List.{length-set, length-map}
 use Rattle.view_outside.specs.Faults.{Rose}
 use Rattle.file_model.specs.Lists.{IndexLists, SeenBody, body_size}
 use Rattle.token_words.specs.Changes.{Stays}
 use Rattle.tier_model.specs.declared.turns.Turn.{Turn}
 use Rattle.tier_model.specs.Tiers.{TierState, body_at, sizes_of}
-use Rattle.tier_model.specs.Answers.{IfGot, IfLost, IfFault, IfChanged, IfKept}
+use Rattle.tier_model.specs.Answers.{IfGot, IfFault, IfChanged, IfKept}
 use Rattle.tier_model.specs.BodyLaws.{get-set_same}
 use Rattle.tier_model.specs.Turns.{Board}
 use Rattle.tier_model.specs.Ties.{IsTied}

@@ -1,5 +1,5 @@
 -- What a turn says, fact by fact.
-use Rattle.std.proofs.Common.{◌≡◌, ℕ, suc, ◌≤◌, true, false, ◌++◌, Option, Some, None, Result, Ok, Err, IfOk, OnErr, MatchResult}
+use Rattle.std.proofs.Common.{◌≡◌, ℕ, suc, ◌≤◌, true, false, ◌++◌, Some, None, Result, Ok, Err, IfOk, OnErr, MatchResult}
 use Rattle.std.specs.Prelude.{slice_get}
 use Rattle.view_outside.specs.Faults.{Rose}
 use Rattle.view_outside.specs.Taken.{RisesAtMost}

@@ -1,9 +1,8 @@
 -- A tier below the top isn't told the epochs.
-use Rattle.std.proofs.Common.{◌≡◌, ℕ, Bool, true, false, not, ◌&&◌, ◌||◌, Option, None, Some, refl, ap, ◌∙◌, sym}
-use Rattle.std.specs.Prelude.{nat_lt, nat_le}
+use Rattle.std.proofs.Common.{◌≡◌, ℕ, Bool, false, refl, ◌∙◌}
 use Rattle.tier_model.specs.declared.turns.Turn.{Turn}
 use Rattle.tier_model.specs.Tiers.{TierState}
-use Rattle.tier_model.specs.Choices.{Told, candidate}
+use Rattle.tier_model.specs.Choices.{candidate}
 use Rattle.tier_model.specs.Turns.{Outcome, Board, turn_of, ranked_turn_of, entering, leaving, reserve_or, fetch_or, commit_or, leave_or_idle, begun, outcome_in, IsTurn}
 use Rattle.transfer_step.specs.TurnWords.{told_of}
 

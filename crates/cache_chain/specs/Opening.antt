@@ -1,5 +1,5 @@
 -- How a chain opens: the top tier pins the base patches, one after the other.
-use Rattle.std.specs.Prelude.{◌≡◌, ℕ, ◌+◌, ◌<◌, ◌≤◌, true, List, [], ◌∷◌, length, Option, Some, None, slice_get, slice_index_or}
+use Rattle.std.specs.Prelude.{◌≡◌, ℕ, ◌+◌, ◌≤◌, true, List, [], ◌∷◌, length, Option, Some, None, slice_get}
 use Rattle.file_model.specs.Lists.{IndexLists, SeenBody}
 use Rattle.tier_model.specs.Places.{is_marked}
 use Rattle.tier_model.specs.Tiers.{TierState, load, IsBodyFor, base_marks}

@@ -1,11 +1,11 @@
 -- What turns of a chain keep, one after the other.
-use Rattle.std.proofs.Common.{◌≡◌, ℕ, ◌≤◌, Bool, true, List, [], ◌∷◌, ◌++◌, Result, Ok, Err, IfOk, OnErr, refl, sym, ap, subst, ◌∙◌, inl, inr, arith, append_assoc, append-nil}
+use Rattle.std.proofs.Common.{ℕ, ◌≤◌, List, [], ◌∷◌, ◌++◌, Result, Ok, Err, IfOk, OnErr, refl, sym, subst, ◌∙◌, inl, arith, append_assoc, append-nil}
 use Rattle.view_outside.specs.Taken.{taken_after-zero}
 use Rattle.tier_model.specs.declared.turns.Turn.{Turn}
 use Rattle.cache_chain.specs.declared.parts.TurnLine.{TurnLine}
 use Rattle.cache_chain.specs.WordTurns.{WordsSeen}
 use Rattle.cache_chain.specs.SettleRuns.{LogsSettling, LogsStop}
-use Rattle.cache_chain.specs.TurnRuns.{Setting, Moment, KeepsSets, MakesTurn, MakesTurns, Begins, Then, RefusesTurn, StopsTurns}
+use Rattle.cache_chain.specs.TurnRuns.{Setting, Moment, KeepsSets, MakesTurns, Begins, Then, RefusesTurn, StopsTurns}
 
 -- turns and then more turns
 pub makes_more : (u : Setting) (l m n : Moment) (made more : List (ℕ × Turn)) → MakesTurns u l made m → MakesTurns u m more n → MakesTurns u l (made ++ more) n

@@ -1,5 +1,5 @@
 -- A settling with its log: the turns that were made, each with the number of its tier.
-use Rattle.std.specs.Prelude.{◌≡◌, ℕ, ◌≤◌, List, [], ◌∷◌, ◌++◌, length, map}
+use Rattle.std.specs.Prelude.{◌≡◌, ℕ, ◌≤◌, List, ◌++◌, length, map}
 use Rattle.tier_model.specs.declared.turns.Turn.{Turn}
 use Rattle.tier_model.specs.ChainLaws.{IsTopTied}
 use Rattle.tier_model.specs.Settling.{TurnsToIdle, Settles}

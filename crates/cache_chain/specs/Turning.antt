@@ -1,5 +1,5 @@
 -- One turn of a tier among tiers, over a store or whatever else lies below the lowest of them.
-use Rattle.std.specs.Prelude.{◌≡◌, ℕ, suc, Bool, false, List, Some, None, slice_get, slice_set, MatchOption, Result, IfOk, OnErr}
+use Rattle.std.specs.Prelude.{◌≡◌, ℕ, suc, false, List, Some, None, slice_get, slice_set, MatchOption, Result, IfOk, OnErr}
 use Rattle.file_model.specs.Lists.{SeenBody}
 use Rattle.tier_model.specs.declared.turns.Turn.{Turn}
 use Rattle.tier_model.specs.Tiers.{TierState, body_at, IsTier}

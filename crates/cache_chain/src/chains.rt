@@ -24,9 +24,17 @@ impl<'a, S: Store> Model for TierChain<'a, S> {
 
     ghost Value = { ChainSeen S };
 
-    ghost view = { λ c. record { mesh = c.mesh.now; tiers = states_of c.tiers.items; file = c.file; store = c.store.now; lender = c.store.ghost_name } };
+    ghost view = { λ c.
+        record {
+          mesh = c.mesh.now;
+          tiers = states_of c.tiers.items;
+          file = c.file;
+          store = c.store.now;
+          lender = c.store.ghost_name;
+        } };
 
-    ghost invariant = { λ c. IsChain c.mesh.now.lists.index (S.files c.store.now) c.file (states_of c.tiers.items) };
+    ghost invariant = { λ c.
+        IsChain c.mesh.now.lists.index (S.files c.store.now) c.file (states_of c.tiers.items) };
 }
 
 impl<'a, S: Store> TierChain<'a, S> {
@@ -37,7 +45,8 @@ impl<'a, S: Store> TierChain<'a, S> {
     /// The chain of these parts. Condition: they are 1 to 4 tiers of the mesh's index with bodies of the
     /// file; the pinned patches of the first are the base patches, and the others have none.
     pub fn from_parts(parts: ChainParts<'a, S>) -> TierChain<'a, S>
-        requires { IsChain parts.mesh.now.lists.index (S.files parts.store.now) parts.file (states_of parts.tiers.items) }
+        requires { IsChain parts.mesh.now.lists.index (S.files parts.store.now) parts.file
+            (states_of parts.tiers.items) }
         ensures mesh { result.mesh ≡ parts.entry.mesh.now }
         ensures tiers { result.tiers ≡ states_of parts.entry.tiers.items }
         ensures file { result.file ≡ parts.entry.file }
@@ -65,7 +74,8 @@ impl<'a, S: Store> TierChain<'a, S> {
         ensures file { result.file ≡ self.entry.file }
         ensures store { result.store.now ≡ self.entry.store }
         ensures lender { result.store.ghost_name ≡ self.entry.lender }
-        ensures facts { IsChain self.entry.mesh.lists.index (S.files self.entry.store) self.entry.file self.entry.tiers }
+        ensures facts { IsChain self.entry.mesh.lists.index (S.files self.entry.store)
+            self.entry.file self.entry.tiers }
     {
         let TierChain {
             mesh,
@@ -84,7 +94,8 @@ impl<'a, S: Store> TierChain<'a, S> {
     /// How many tiers there are, 1 to 4.
     pub fn tier_count(&self) -> u32
         ensures value { result ≡ length self.now.tiers }
-        ensures facts { IsChain self.now.mesh.lists.index (S.files self.now.store) self.now.file self.now.tiers }
+        ensures facts { IsChain self.now.mesh.lists.index (S.files self.now.store) self.now.file
+            self.now.tiers }
     {
         self.tiers.len() as u32
     }
@@ -100,7 +111,10 @@ impl<'a, S: Store> TierChain<'a, S> {
     /// The body of the patch, None exactly where the top tier doesn't hold it.
     pub fn top_body(&self, patch: u32) -> Option<&Arc<Body>>
         requires { patch < length self.now.mesh.lists.index.fields }
-        ensures { IfSome (slice_get self.now.tiers 0) (λ top. MatchOption result (slice_get top.held patch ≡ Some None) (λ body. slice_get top.held patch ≡ Some (Some (arc_value body.now)))) }
+        ensures { IfSome (slice_get self.now.tiers 0)
+            (λ top.
+            MatchOption result (slice_get top.held patch ≡ Some None)
+            (λ body. slice_get top.held patch ≡ Some (Some (arc_value body.now)))) }
     {
         self.tiers[0].held(patch)
     }

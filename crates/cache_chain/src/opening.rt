@@ -46,7 +46,9 @@ fn empty_tiers(
 ) -> Result<ArrayVec<Tier, 4, Global>, NoMemory>
     requires few { length budgets.now ≤ 4 }
     requires width { IsWidth width }
-    ensures { IfOk result (λ tiers. states_of tiers.items ≡ map (λ budget. fresh index.now budget width) budgets.now) }
+    ensures { IfOk result
+        (λ tiers.
+        states_of tiers.items ≡ map (λ budget. fresh index.now budget width) budgets.now) }
 {
     let mut tiers = ArrayVec::new_in(alloc);
     for budget in budgets {
@@ -83,14 +85,29 @@ pub fn open_tiers<S: Store>(
     requires few { length budgets.now ≤ 4 }
     requires width { IsWidth width }
     requires file { HasFile (S.files store.old) file }
-    ensures opened { IfOk result (λ tiers. IsOpened mesh.now.lists.index (file_bytes (S.files store.old) file) budgets.now width (states_of tiers.items)) }
-    ensures are { IfOk result (λ tiers. AreTiersOf mesh.now.lists.index (file_bytes (S.files store.old) file) (states_of tiers.items)) }
-    ensures large { slice_index budgets.now 0 < base_size mesh.now.lists → result ≡ Err (Budget (base_size mesh.now.lists) (slice_index budgets.now 0)) }
-    ensures budget { IfErr result (NamesBudget (base_size mesh.now.lists) (slice_index budgets.now 0)) }
+    ensures opened { IfOk result
+        (λ tiers.
+        IsOpened mesh.now.lists.index (file_bytes (S.files store.old) file) budgets.now width
+        (states_of tiers.items)) }
+    ensures are { IfOk result
+        (λ tiers.
+        AreTiersOf mesh.now.lists.index (file_bytes (S.files store.old) file)
+        (states_of tiers.items)) }
+    ensures large { slice_index budgets.now 0 < base_size mesh.now.lists
+        → result ≡ Err (Budget (base_size mesh.now.lists) (slice_index budgets.now 0)) }
+    ensures budget { IfErr result
+        (NamesBudget (base_size mesh.now.lists) (slice_index budgets.now 0)) }
     ensures changed { IfErr result NamesBodyFault }
-    ensures told { IfSome (file_bytes (S.files store.old) file) (λ bytes. IfErr result (NamesChange mesh.now.lists.index bytes (outgoing mesh.now.lists.index.fields mesh.now.lists.root))) }
-    ensures reason { IfErr result (HasReason (base_size mesh.now.lists) (S.faults store.old) (S.faults store.new) (S.taken store.old) (S.taken store.new)) }
-    ensures taken { IfOk result (λ _. S.taken store.new ≡ taken_after (S.taken store.old) (base_size mesh.now.lists)) }
+    ensures told { IfSome (file_bytes (S.files store.old) file)
+        (λ bytes.
+        IfErr result
+        (NamesChange mesh.now.lists.index bytes
+        (outgoing mesh.now.lists.index.fields mesh.now.lists.root))) }
+    ensures reason { IfErr result
+        (HasReason (base_size mesh.now.lists) (S.faults store.old) (S.faults store.new)
+        (S.taken store.old) (S.taken store.new)) }
+    ensures taken { IfOk result
+        (λ _. S.taken store.new ≡ taken_after (S.taken store.old) (base_size mesh.now.lists)) }
     ensures most { RisesAtMost (S.taken store.old) (S.taken store.new) (base_size mesh.now.lists) }
     ensures later { S.faults store.old ≤ S.faults store.new }
     ensures files { S.files store.new ≡ S.files store.old }

@@ -34,28 +34,48 @@ fn log_turn<S: Store, W: Wishes, K: Keeper>(
     requires tier { tier < length tiers.old }
     requires file { HasFile (S.files store.old) file }
     requires patches { length index.now.fields ≤ W.patches wishes.now }
-    requires may { MayTurn (setting_of (board_of (W.wish_of wishes.now) (W.version_of wishes.now)) K.tells_sets K.tells_misses index.now
-        (file_bytes (S.files store.old) file)) (moment_of (states_of tiers.old)
-        (words_of (K.patches keeper.old) (K.epochs keeper.old) (K.pinned keeper.old) (K.session_uses keeper.old) (K.session_locks keeper.old) (K.misses keeper.old))
+    requires may { MayTurn
+        (setting_of (board_of (W.wish_of wishes.now) (W.version_of wishes.now)) K.tells_sets
+        K.tells_misses index.now (file_bytes (S.files store.old) file))
+        (moment_of (states_of tiers.old)
+        (words_of (K.patches keeper.old) (K.epochs keeper.old) (K.pinned keeper.old)
+        (K.session_uses keeper.old) (K.session_locks keeper.old) (K.misses keeper.old))
         (S.faults store.old) (S.taken store.old)) }
-    ensures made { IfOk result (λ answer. MakesTurn (setting_of (board_of (W.wish_of wishes.now) (W.version_of wishes.now)) K.tells_sets K.tells_misses index.now
-        (file_bytes (S.files store.old) file)) tier answer (moment_of (states_of tiers.old)
-        (words_of (K.patches keeper.old) (K.epochs keeper.old) (K.pinned keeper.old) (K.session_uses keeper.old) (K.session_locks keeper.old) (K.misses keeper.old))
-        (S.faults store.old) (S.taken store.old)) (moment_of (states_of tiers.new)
-        (words_of (K.patches keeper.new) (K.epochs keeper.new) (K.pinned keeper.new) (K.session_uses keeper.new) (K.session_locks keeper.new) (K.misses keeper.new))
-        (S.faults store.new) (S.taken store.new))) }
-    ensures refused { OnErr result (RefusesTurn (setting_of (board_of (W.wish_of wishes.now) (W.version_of wishes.now)) K.tells_sets K.tells_misses index.now
-        (file_bytes (S.files store.old) file)) tier (moment_of (states_of tiers.old)
-        (words_of (K.patches keeper.old) (K.epochs keeper.old) (K.pinned keeper.old) (K.session_uses keeper.old) (K.session_locks keeper.old) (K.misses keeper.old))
-        (S.faults store.old) (S.taken store.old)) (moment_of (states_of tiers.new)
-        (words_of (K.patches keeper.new) (K.epochs keeper.new) (K.pinned keeper.new) (K.session_uses keeper.new) (K.session_locks keeper.new) (K.misses keeper.new))
-        (S.faults store.new) (S.taken store.new))) }
+    ensures made { IfOk result
+        (λ answer.
+        MakesTurn
+        (setting_of (board_of (W.wish_of wishes.now) (W.version_of wishes.now))
+        K.tells_sets K.tells_misses index.now (file_bytes (S.files store.old) file))
+        tier answer
+        (moment_of (states_of tiers.old)
+        (words_of (K.patches keeper.old) (K.epochs keeper.old) (K.pinned keeper.old)
+        (K.session_uses keeper.old) (K.session_locks keeper.old)
+        (K.misses keeper.old)) (S.faults store.old) (S.taken store.old))
+        (moment_of (states_of tiers.new)
+        (words_of (K.patches keeper.new) (K.epochs keeper.new) (K.pinned keeper.new)
+        (K.session_uses keeper.new) (K.session_locks keeper.new)
+        (K.misses keeper.new)) (S.faults store.new) (S.taken store.new))) }
+    ensures refused { OnErr result
+        (RefusesTurn
+        (setting_of (board_of (W.wish_of wishes.now) (W.version_of wishes.now)) K.tells_sets
+        K.tells_misses index.now (file_bytes (S.files store.old) file)) tier
+        (moment_of (states_of tiers.old)
+        (words_of (K.patches keeper.old) (K.epochs keeper.old) (K.pinned keeper.old)
+        (K.session_uses keeper.old) (K.session_locks keeper.old)
+        (K.misses keeper.old)) (S.faults store.old) (S.taken store.old))
+        (moment_of (states_of tiers.new)
+        (words_of (K.patches keeper.new) (K.epochs keeper.new) (K.pinned keeper.new)
+        (K.session_uses keeper.new) (K.session_locks keeper.new)
+        (K.misses keeper.new)) (S.faults store.new) (S.taken store.new))) }
     ensures log { MatchResult result
         (λ answer. log.new.items ≡ log.old.items ++ (record { tier = tier; turn = answer }) ∷ [])
         (λ _. log.new.items ≡ log.old.items) }
-    ensures may { MayTurn (setting_of (board_of (W.wish_of wishes.now) (W.version_of wishes.now)) K.tells_sets K.tells_misses index.now
-        (file_bytes (S.files store.old) file)) (moment_of (states_of tiers.new)
-        (words_of (K.patches keeper.new) (K.epochs keeper.new) (K.pinned keeper.new) (K.session_uses keeper.new) (K.session_locks keeper.new) (K.misses keeper.new))
+    ensures may { MayTurn
+        (setting_of (board_of (W.wish_of wishes.now) (W.version_of wishes.now)) K.tells_sets
+        K.tells_misses index.now (file_bytes (S.files store.old) file))
+        (moment_of (states_of tiers.new)
+        (words_of (K.patches keeper.new) (K.epochs keeper.new) (K.pinned keeper.new)
+        (K.session_uses keeper.new) (K.session_locks keeper.new) (K.misses keeper.new))
         (S.faults store.new) (S.taken store.new)) }
     ensures many { length tiers.new ≡ length tiers.old }
     ensures files { S.files store.new ≡ S.files store.old }
@@ -83,25 +103,47 @@ fn settle_tier<S: Store, W: Wishes, K: Keeper>(
     requires tier { tier < length tiers.old }
     requires file { HasFile (S.files store.old) file }
     requires patches { length index.now.fields ≤ W.patches wishes.now }
-    requires may { MayTurn (setting_of (board_of (W.wish_of wishes.now) (W.version_of wishes.now)) K.tells_sets K.tells_misses index.now
-        (file_bytes (S.files store.old) file)) (moment_of (states_of tiers.old)
-        (words_of (K.patches keeper.old) (K.epochs keeper.old) (K.pinned keeper.old) (K.session_uses keeper.old) (K.session_locks keeper.old) (K.misses keeper.old))
+    requires may { MayTurn
+        (setting_of (board_of (W.wish_of wishes.now) (W.version_of wishes.now)) K.tells_sets
+        K.tells_misses index.now (file_bytes (S.files store.old) file))
+        (moment_of (states_of tiers.old)
+        (words_of (K.patches keeper.old) (K.epochs keeper.old) (K.pinned keeper.old)
+        (K.session_uses keeper.old) (K.session_locks keeper.old) (K.misses keeper.old))
         (S.faults store.old) (S.taken store.old)) }
-    ensures settled { IfOk result (λ _. LogsTier (setting_of (board_of (W.wish_of wishes.now) (W.version_of wishes.now)) K.tells_sets K.tells_misses index.now
-        (file_bytes (S.files store.old) file)) tier (moment_of (states_of tiers.old)
-        (words_of (K.patches keeper.old) (K.epochs keeper.old) (K.pinned keeper.old) (K.session_uses keeper.old) (K.session_locks keeper.old) (K.misses keeper.old))
-        (S.faults store.old) (S.taken store.old)) (moment_of (states_of tiers.new)
-        (words_of (K.patches keeper.new) (K.epochs keeper.new) (K.pinned keeper.new) (K.session_uses keeper.new) (K.session_locks keeper.new) (K.misses keeper.new))
-        (S.faults store.new) (S.taken store.new)) log.old.items log.new.items) }
-    ensures stopped { OnErr result (LogsStop (setting_of (board_of (W.wish_of wishes.now) (W.version_of wishes.now)) K.tells_sets K.tells_misses index.now
-        (file_bytes (S.files store.old) file)) (moment_of (states_of tiers.old)
-        (words_of (K.patches keeper.old) (K.epochs keeper.old) (K.pinned keeper.old) (K.session_uses keeper.old) (K.session_locks keeper.old) (K.misses keeper.old))
-        (S.faults store.old) (S.taken store.old)) (moment_of (states_of tiers.new)
-        (words_of (K.patches keeper.new) (K.epochs keeper.new) (K.pinned keeper.new) (K.session_uses keeper.new) (K.session_locks keeper.new) (K.misses keeper.new))
-        (S.faults store.new) (S.taken store.new)) log.old.items log.new.items) }
-    ensures may { MayTurn (setting_of (board_of (W.wish_of wishes.now) (W.version_of wishes.now)) K.tells_sets K.tells_misses index.now
-        (file_bytes (S.files store.old) file)) (moment_of (states_of tiers.new)
-        (words_of (K.patches keeper.new) (K.epochs keeper.new) (K.pinned keeper.new) (K.session_uses keeper.new) (K.session_locks keeper.new) (K.misses keeper.new))
+    ensures settled { IfOk result
+        (λ _.
+        LogsTier
+        (setting_of (board_of (W.wish_of wishes.now) (W.version_of wishes.now))
+        K.tells_sets K.tells_misses index.now (file_bytes (S.files store.old) file))
+        tier
+        (moment_of (states_of tiers.old)
+        (words_of (K.patches keeper.old) (K.epochs keeper.old) (K.pinned keeper.old)
+        (K.session_uses keeper.old) (K.session_locks keeper.old)
+        (K.misses keeper.old)) (S.faults store.old) (S.taken store.old))
+        (moment_of (states_of tiers.new)
+        (words_of (K.patches keeper.new) (K.epochs keeper.new) (K.pinned keeper.new)
+        (K.session_uses keeper.new) (K.session_locks keeper.new)
+        (K.misses keeper.new)) (S.faults store.new) (S.taken store.new))
+        log.old.items log.new.items) }
+    ensures stopped { OnErr result
+        (LogsStop
+        (setting_of (board_of (W.wish_of wishes.now) (W.version_of wishes.now)) K.tells_sets
+        K.tells_misses index.now (file_bytes (S.files store.old) file))
+        (moment_of (states_of tiers.old)
+        (words_of (K.patches keeper.old) (K.epochs keeper.old) (K.pinned keeper.old)
+        (K.session_uses keeper.old) (K.session_locks keeper.old)
+        (K.misses keeper.old)) (S.faults store.old) (S.taken store.old))
+        (moment_of (states_of tiers.new)
+        (words_of (K.patches keeper.new) (K.epochs keeper.new) (K.pinned keeper.new)
+        (K.session_uses keeper.new) (K.session_locks keeper.new)
+        (K.misses keeper.new)) (S.faults store.new) (S.taken store.new))
+        log.old.items log.new.items) }
+    ensures may { MayTurn
+        (setting_of (board_of (W.wish_of wishes.now) (W.version_of wishes.now)) K.tells_sets
+        K.tells_misses index.now (file_bytes (S.files store.old) file))
+        (moment_of (states_of tiers.new)
+        (words_of (K.patches keeper.new) (K.epochs keeper.new) (K.pinned keeper.new)
+        (K.session_uses keeper.new) (K.session_locks keeper.new) (K.misses keeper.new))
         (S.faults store.new) (S.taken store.new)) }
     ensures many { length tiers.new ≡ length tiers.old }
     ensures files { S.files store.new ≡ S.files store.old }
@@ -132,25 +174,47 @@ pub fn settle_tiers<S: Store, W: Wishes, K: Keeper>(
     requires few { length tiers.old ≤ 4 }
     requires file { HasFile (S.files store.old) file }
     requires patches { length index.now.fields ≤ W.patches wishes.now }
-    requires may { MayTurn (setting_of (board_of (W.wish_of wishes.now) (W.version_of wishes.now)) K.tells_sets K.tells_misses index.now
-        (file_bytes (S.files store.old) file)) (moment_of (states_of tiers.old)
-        (words_of (K.patches keeper.old) (K.epochs keeper.old) (K.pinned keeper.old) (K.session_uses keeper.old) (K.session_locks keeper.old) (K.misses keeper.old))
+    requires may { MayTurn
+        (setting_of (board_of (W.wish_of wishes.now) (W.version_of wishes.now)) K.tells_sets
+        K.tells_misses index.now (file_bytes (S.files store.old) file))
+        (moment_of (states_of tiers.old)
+        (words_of (K.patches keeper.old) (K.epochs keeper.old) (K.pinned keeper.old)
+        (K.session_uses keeper.old) (K.session_locks keeper.old) (K.misses keeper.old))
         (S.faults store.old) (S.taken store.old)) }
-    ensures settled { IfOk result (λ _. LogsSettling (setting_of (board_of (W.wish_of wishes.now) (W.version_of wishes.now)) K.tells_sets K.tells_misses index.now
-        (file_bytes (S.files store.old) file)) (length tiers.old) (moment_of (states_of tiers.old)
-        (words_of (K.patches keeper.old) (K.epochs keeper.old) (K.pinned keeper.old) (K.session_uses keeper.old) (K.session_locks keeper.old) (K.misses keeper.old))
-        (S.faults store.old) (S.taken store.old)) (moment_of (states_of tiers.new)
-        (words_of (K.patches keeper.new) (K.epochs keeper.new) (K.pinned keeper.new) (K.session_uses keeper.new) (K.session_locks keeper.new) (K.misses keeper.new))
-        (S.faults store.new) (S.taken store.new)) log.old.items log.new.items) }
-    ensures stopped { OnErr result (LogsStop (setting_of (board_of (W.wish_of wishes.now) (W.version_of wishes.now)) K.tells_sets K.tells_misses index.now
-        (file_bytes (S.files store.old) file)) (moment_of (states_of tiers.old)
-        (words_of (K.patches keeper.old) (K.epochs keeper.old) (K.pinned keeper.old) (K.session_uses keeper.old) (K.session_locks keeper.old) (K.misses keeper.old))
-        (S.faults store.old) (S.taken store.old)) (moment_of (states_of tiers.new)
-        (words_of (K.patches keeper.new) (K.epochs keeper.new) (K.pinned keeper.new) (K.session_uses keeper.new) (K.session_locks keeper.new) (K.misses keeper.new))
-        (S.faults store.new) (S.taken store.new)) log.old.items log.new.items) }
-    ensures may { MayTurn (setting_of (board_of (W.wish_of wishes.now) (W.version_of wishes.now)) K.tells_sets K.tells_misses index.now
-        (file_bytes (S.files store.old) file)) (moment_of (states_of tiers.new)
-        (words_of (K.patches keeper.new) (K.epochs keeper.new) (K.pinned keeper.new) (K.session_uses keeper.new) (K.session_locks keeper.new) (K.misses keeper.new))
+    ensures settled { IfOk result
+        (λ _.
+        LogsSettling
+        (setting_of (board_of (W.wish_of wishes.now) (W.version_of wishes.now))
+        K.tells_sets K.tells_misses index.now (file_bytes (S.files store.old) file))
+        (length tiers.old)
+        (moment_of (states_of tiers.old)
+        (words_of (K.patches keeper.old) (K.epochs keeper.old) (K.pinned keeper.old)
+        (K.session_uses keeper.old) (K.session_locks keeper.old)
+        (K.misses keeper.old)) (S.faults store.old) (S.taken store.old))
+        (moment_of (states_of tiers.new)
+        (words_of (K.patches keeper.new) (K.epochs keeper.new) (K.pinned keeper.new)
+        (K.session_uses keeper.new) (K.session_locks keeper.new)
+        (K.misses keeper.new)) (S.faults store.new) (S.taken store.new))
+        log.old.items log.new.items) }
+    ensures stopped { OnErr result
+        (LogsStop
+        (setting_of (board_of (W.wish_of wishes.now) (W.version_of wishes.now)) K.tells_sets
+        K.tells_misses index.now (file_bytes (S.files store.old) file))
+        (moment_of (states_of tiers.old)
+        (words_of (K.patches keeper.old) (K.epochs keeper.old) (K.pinned keeper.old)
+        (K.session_uses keeper.old) (K.session_locks keeper.old)
+        (K.misses keeper.old)) (S.faults store.old) (S.taken store.old))
+        (moment_of (states_of tiers.new)
+        (words_of (K.patches keeper.new) (K.epochs keeper.new) (K.pinned keeper.new)
+        (K.session_uses keeper.new) (K.session_locks keeper.new)
+        (K.misses keeper.new)) (S.faults store.new) (S.taken store.new))
+        log.old.items log.new.items) }
+    ensures may { MayTurn
+        (setting_of (board_of (W.wish_of wishes.now) (W.version_of wishes.now)) K.tells_sets
+        K.tells_misses index.now (file_bytes (S.files store.old) file))
+        (moment_of (states_of tiers.new)
+        (words_of (K.patches keeper.new) (K.epochs keeper.new) (K.pinned keeper.new)
+        (K.session_uses keeper.new) (K.session_locks keeper.new) (K.misses keeper.new))
         (S.faults store.new) (S.taken store.new)) }
     ensures many { length tiers.new ≡ length tiers.old }
     ensures files { S.files store.new ≡ S.files store.old }

@@ -34,29 +34,52 @@ fn turn_top<'s, S: Store, W: Wishes, K: Keeper>(
     requires top { tier ≡ 0 }
     requires file { HasFile (S.files store.old) file }
     requires patches { length index.now.fields ≤ W.patches wishes.now }
-    requires may { MayTurn (setting_of (board_of (W.wish_of wishes.now) (W.version_of wishes.now)) K.tells_sets K.tells_misses index.now
-        (file_bytes (S.files store.old) file)) (moment_of (states_of tiers.old)
-        (words_of (K.patches keeper.old) (K.epochs keeper.old) (K.pinned keeper.old) (K.session_uses keeper.old) (K.session_locks keeper.old) (K.misses keeper.old))
+    requires may { MayTurn
+        (setting_of (board_of (W.wish_of wishes.now) (W.version_of wishes.now)) K.tells_sets
+        K.tells_misses index.now (file_bytes (S.files store.old) file))
+        (moment_of (states_of tiers.old)
+        (words_of (K.patches keeper.old) (K.epochs keeper.old) (K.pinned keeper.old)
+        (K.session_uses keeper.old) (K.session_locks keeper.old) (K.misses keeper.old))
         (S.faults store.old) (S.taken store.old)) }
-    ensures made { IfOk result (λ answer. MakesTurn (setting_of (board_of (W.wish_of wishes.now) (W.version_of wishes.now)) K.tells_sets K.tells_misses index.now
-        (file_bytes (S.files store.old) file)) tier answer (moment_of (states_of tiers.old)
-        (words_of (K.patches keeper.old) (K.epochs keeper.old) (K.pinned keeper.old) (K.session_uses keeper.old) (K.session_locks keeper.old) (K.misses keeper.old))
-        (S.faults store.old) (S.taken store.old)) (moment_of (states_of tiers.new)
-        (words_of (K.patches keeper.new) (K.epochs keeper.new) (K.pinned keeper.new) (K.session_uses keeper.new) (K.session_locks keeper.new) (K.misses keeper.new))
-        (S.faults store.new) (S.taken store.new))) }
-    ensures refused { OnErr result (RefusesTurn (setting_of (board_of (W.wish_of wishes.now) (W.version_of wishes.now)) K.tells_sets K.tells_misses index.now
-        (file_bytes (S.files store.old) file)) tier (moment_of (states_of tiers.old)
-        (words_of (K.patches keeper.old) (K.epochs keeper.old) (K.pinned keeper.old) (K.session_uses keeper.old) (K.session_locks keeper.old) (K.misses keeper.old))
-        (S.faults store.old) (S.taken store.old)) (moment_of (states_of tiers.new)
-        (words_of (K.patches keeper.new) (K.epochs keeper.new) (K.pinned keeper.new) (K.session_uses keeper.new) (K.session_locks keeper.new) (K.misses keeper.new))
-        (S.faults store.new) (S.taken store.new))) }
-    ensures takes { OnErr result (TakesWishes (board_of (W.wish_of wishes.now) (W.version_of wishes.now)) tier (states_of tiers.old) (states_of tiers.new)) }
-    ensures may { MayTurn (setting_of (board_of (W.wish_of wishes.now) (W.version_of wishes.now)) K.tells_sets K.tells_misses index.now
-        (file_bytes (S.files store.old) file)) (moment_of (states_of tiers.new)
-        (words_of (K.patches keeper.new) (K.epochs keeper.new) (K.pinned keeper.new) (K.session_uses keeper.new) (K.session_locks keeper.new) (K.misses keeper.new))
+    ensures made { IfOk result
+        (λ answer.
+        MakesTurn
+        (setting_of (board_of (W.wish_of wishes.now) (W.version_of wishes.now))
+        K.tells_sets K.tells_misses index.now (file_bytes (S.files store.old) file))
+        tier answer
+        (moment_of (states_of tiers.old)
+        (words_of (K.patches keeper.old) (K.epochs keeper.old) (K.pinned keeper.old)
+        (K.session_uses keeper.old) (K.session_locks keeper.old)
+        (K.misses keeper.old)) (S.faults store.old) (S.taken store.old))
+        (moment_of (states_of tiers.new)
+        (words_of (K.patches keeper.new) (K.epochs keeper.new) (K.pinned keeper.new)
+        (K.session_uses keeper.new) (K.session_locks keeper.new)
+        (K.misses keeper.new)) (S.faults store.new) (S.taken store.new))) }
+    ensures refused { OnErr result
+        (RefusesTurn
+        (setting_of (board_of (W.wish_of wishes.now) (W.version_of wishes.now)) K.tells_sets
+        K.tells_misses index.now (file_bytes (S.files store.old) file)) tier
+        (moment_of (states_of tiers.old)
+        (words_of (K.patches keeper.old) (K.epochs keeper.old) (K.pinned keeper.old)
+        (K.session_uses keeper.old) (K.session_locks keeper.old)
+        (K.misses keeper.old)) (S.faults store.old) (S.taken store.old))
+        (moment_of (states_of tiers.new)
+        (words_of (K.patches keeper.new) (K.epochs keeper.new) (K.pinned keeper.new)
+        (K.session_uses keeper.new) (K.session_locks keeper.new)
+        (K.misses keeper.new)) (S.faults store.new) (S.taken store.new))) }
+    ensures takes { OnErr result
+        (TakesWishes (board_of (W.wish_of wishes.now) (W.version_of wishes.now)) tier
+        (states_of tiers.old) (states_of tiers.new)) }
+    ensures may { MayTurn
+        (setting_of (board_of (W.wish_of wishes.now) (W.version_of wishes.now)) K.tells_sets
+        K.tells_misses index.now (file_bytes (S.files store.old) file))
+        (moment_of (states_of tiers.new)
+        (words_of (K.patches keeper.new) (K.epochs keeper.new) (K.pinned keeper.new)
+        (K.session_uses keeper.new) (K.session_locks keeper.new) (K.misses keeper.new))
         (S.faults store.new) (S.taken store.new)) }
     ensures many { length tiers.new ≡ length tiers.old }
-    ensures upper { (t : TierState) → slice_get (states_of tiers.old) (suc tier) ≡ Some t → store.new ≡ store.old }
+    ensures upper { (t : TierState) → slice_get (states_of tiers.old) (suc tier) ≡ Some t
+        → store.new ≡ store.old }
     ensures files { S.files store.new ≡ S.files store.old }
     ensures place { K.place keeper.new ≡ K.place keeper.old }
 {
@@ -79,29 +102,52 @@ fn turn_lower<'s, S: Store, W: Wishes, K: Keeper>(
     requires lower { tier ≢ 0 }
     requires file { HasFile (S.files store.old) file }
     requires patches { length index.now.fields ≤ W.patches wishes.now }
-    requires may { MayTurn (setting_of (board_of (W.wish_of wishes.now) (W.version_of wishes.now)) K.tells_sets K.tells_misses index.now
-        (file_bytes (S.files store.old) file)) (moment_of (states_of tiers.old)
-        (words_of (K.patches keeper.old) (K.epochs keeper.old) (K.pinned keeper.old) (K.session_uses keeper.old) (K.session_locks keeper.old) (K.misses keeper.old))
+    requires may { MayTurn
+        (setting_of (board_of (W.wish_of wishes.now) (W.version_of wishes.now)) K.tells_sets
+        K.tells_misses index.now (file_bytes (S.files store.old) file))
+        (moment_of (states_of tiers.old)
+        (words_of (K.patches keeper.old) (K.epochs keeper.old) (K.pinned keeper.old)
+        (K.session_uses keeper.old) (K.session_locks keeper.old) (K.misses keeper.old))
         (S.faults store.old) (S.taken store.old)) }
-    ensures made { IfOk result (λ answer. MakesTurn (setting_of (board_of (W.wish_of wishes.now) (W.version_of wishes.now)) K.tells_sets K.tells_misses index.now
-        (file_bytes (S.files store.old) file)) tier answer (moment_of (states_of tiers.old)
-        (words_of (K.patches keeper.old) (K.epochs keeper.old) (K.pinned keeper.old) (K.session_uses keeper.old) (K.session_locks keeper.old) (K.misses keeper.old))
-        (S.faults store.old) (S.taken store.old)) (moment_of (states_of tiers.new)
-        (words_of (K.patches keeper.new) (K.epochs keeper.new) (K.pinned keeper.new) (K.session_uses keeper.new) (K.session_locks keeper.new) (K.misses keeper.new))
-        (S.faults store.new) (S.taken store.new))) }
-    ensures refused { OnErr result (RefusesTurn (setting_of (board_of (W.wish_of wishes.now) (W.version_of wishes.now)) K.tells_sets K.tells_misses index.now
-        (file_bytes (S.files store.old) file)) tier (moment_of (states_of tiers.old)
-        (words_of (K.patches keeper.old) (K.epochs keeper.old) (K.pinned keeper.old) (K.session_uses keeper.old) (K.session_locks keeper.old) (K.misses keeper.old))
-        (S.faults store.old) (S.taken store.old)) (moment_of (states_of tiers.new)
-        (words_of (K.patches keeper.new) (K.epochs keeper.new) (K.pinned keeper.new) (K.session_uses keeper.new) (K.session_locks keeper.new) (K.misses keeper.new))
-        (S.faults store.new) (S.taken store.new))) }
-    ensures takes { OnErr result (TakesWishes (board_of (W.wish_of wishes.now) (W.version_of wishes.now)) tier (states_of tiers.old) (states_of tiers.new)) }
-    ensures may { MayTurn (setting_of (board_of (W.wish_of wishes.now) (W.version_of wishes.now)) K.tells_sets K.tells_misses index.now
-        (file_bytes (S.files store.old) file)) (moment_of (states_of tiers.new)
-        (words_of (K.patches keeper.new) (K.epochs keeper.new) (K.pinned keeper.new) (K.session_uses keeper.new) (K.session_locks keeper.new) (K.misses keeper.new))
+    ensures made { IfOk result
+        (λ answer.
+        MakesTurn
+        (setting_of (board_of (W.wish_of wishes.now) (W.version_of wishes.now))
+        K.tells_sets K.tells_misses index.now (file_bytes (S.files store.old) file))
+        tier answer
+        (moment_of (states_of tiers.old)
+        (words_of (K.patches keeper.old) (K.epochs keeper.old) (K.pinned keeper.old)
+        (K.session_uses keeper.old) (K.session_locks keeper.old)
+        (K.misses keeper.old)) (S.faults store.old) (S.taken store.old))
+        (moment_of (states_of tiers.new)
+        (words_of (K.patches keeper.new) (K.epochs keeper.new) (K.pinned keeper.new)
+        (K.session_uses keeper.new) (K.session_locks keeper.new)
+        (K.misses keeper.new)) (S.faults store.new) (S.taken store.new))) }
+    ensures refused { OnErr result
+        (RefusesTurn
+        (setting_of (board_of (W.wish_of wishes.now) (W.version_of wishes.now)) K.tells_sets
+        K.tells_misses index.now (file_bytes (S.files store.old) file)) tier
+        (moment_of (states_of tiers.old)
+        (words_of (K.patches keeper.old) (K.epochs keeper.old) (K.pinned keeper.old)
+        (K.session_uses keeper.old) (K.session_locks keeper.old)
+        (K.misses keeper.old)) (S.faults store.old) (S.taken store.old))
+        (moment_of (states_of tiers.new)
+        (words_of (K.patches keeper.new) (K.epochs keeper.new) (K.pinned keeper.new)
+        (K.session_uses keeper.new) (K.session_locks keeper.new)
+        (K.misses keeper.new)) (S.faults store.new) (S.taken store.new))) }
+    ensures takes { OnErr result
+        (TakesWishes (board_of (W.wish_of wishes.now) (W.version_of wishes.now)) tier
+        (states_of tiers.old) (states_of tiers.new)) }
+    ensures may { MayTurn
+        (setting_of (board_of (W.wish_of wishes.now) (W.version_of wishes.now)) K.tells_sets
+        K.tells_misses index.now (file_bytes (S.files store.old) file))
+        (moment_of (states_of tiers.new)
+        (words_of (K.patches keeper.new) (K.epochs keeper.new) (K.pinned keeper.new)
+        (K.session_uses keeper.new) (K.session_locks keeper.new) (K.misses keeper.new))
         (S.faults store.new) (S.taken store.new)) }
     ensures many { length tiers.new ≡ length tiers.old }
-    ensures upper { (t : TierState) → slice_get (states_of tiers.old) (suc tier) ≡ Some t → store.new ≡ store.old }
+    ensures upper { (t : TierState) → slice_get (states_of tiers.old) (suc tier) ≡ Some t
+        → store.new ≡ store.old }
     ensures files { S.files store.new ≡ S.files store.old }
     ensures place { K.place keeper.new ≡ K.place keeper.old }
 {
@@ -123,29 +169,52 @@ pub fn turn_tier<'s, S: Store, W: Wishes, K: Keeper>(
     requires tier { tier < length tiers.old }
     requires file { HasFile (S.files store.old) file }
     requires patches { length index.now.fields ≤ W.patches wishes.now }
-    requires may { MayTurn (setting_of (board_of (W.wish_of wishes.now) (W.version_of wishes.now)) K.tells_sets K.tells_misses index.now
-        (file_bytes (S.files store.old) file)) (moment_of (states_of tiers.old)
-        (words_of (K.patches keeper.old) (K.epochs keeper.old) (K.pinned keeper.old) (K.session_uses keeper.old) (K.session_locks keeper.old) (K.misses keeper.old))
+    requires may { MayTurn
+        (setting_of (board_of (W.wish_of wishes.now) (W.version_of wishes.now)) K.tells_sets
+        K.tells_misses index.now (file_bytes (S.files store.old) file))
+        (moment_of (states_of tiers.old)
+        (words_of (K.patches keeper.old) (K.epochs keeper.old) (K.pinned keeper.old)
+        (K.session_uses keeper.old) (K.session_locks keeper.old) (K.misses keeper.old))
         (S.faults store.old) (S.taken store.old)) }
-    ensures made { IfOk result (λ answer. MakesTurn (setting_of (board_of (W.wish_of wishes.now) (W.version_of wishes.now)) K.tells_sets K.tells_misses index.now
-        (file_bytes (S.files store.old) file)) tier answer (moment_of (states_of tiers.old)
-        (words_of (K.patches keeper.old) (K.epochs keeper.old) (K.pinned keeper.old) (K.session_uses keeper.old) (K.session_locks keeper.old) (K.misses keeper.old))
-        (S.faults store.old) (S.taken store.old)) (moment_of (states_of tiers.new)
-        (words_of (K.patches keeper.new) (K.epochs keeper.new) (K.pinned keeper.new) (K.session_uses keeper.new) (K.session_locks keeper.new) (K.misses keeper.new))
-        (S.faults store.new) (S.taken store.new))) }
-    ensures refused { OnErr result (RefusesTurn (setting_of (board_of (W.wish_of wishes.now) (W.version_of wishes.now)) K.tells_sets K.tells_misses index.now
-        (file_bytes (S.files store.old) file)) tier (moment_of (states_of tiers.old)
-        (words_of (K.patches keeper.old) (K.epochs keeper.old) (K.pinned keeper.old) (K.session_uses keeper.old) (K.session_locks keeper.old) (K.misses keeper.old))
-        (S.faults store.old) (S.taken store.old)) (moment_of (states_of tiers.new)
-        (words_of (K.patches keeper.new) (K.epochs keeper.new) (K.pinned keeper.new) (K.session_uses keeper.new) (K.session_locks keeper.new) (K.misses keeper.new))
-        (S.faults store.new) (S.taken store.new))) }
-    ensures takes { OnErr result (TakesWishes (board_of (W.wish_of wishes.now) (W.version_of wishes.now)) tier (states_of tiers.old) (states_of tiers.new)) }
-    ensures may { MayTurn (setting_of (board_of (W.wish_of wishes.now) (W.version_of wishes.now)) K.tells_sets K.tells_misses index.now
-        (file_bytes (S.files store.old) file)) (moment_of (states_of tiers.new)
-        (words_of (K.patches keeper.new) (K.epochs keeper.new) (K.pinned keeper.new) (K.session_uses keeper.new) (K.session_locks keeper.new) (K.misses keeper.new))
+    ensures made { IfOk result
+        (λ answer.
+        MakesTurn
+        (setting_of (board_of (W.wish_of wishes.now) (W.version_of wishes.now))
+        K.tells_sets K.tells_misses index.now (file_bytes (S.files store.old) file))
+        tier answer
+        (moment_of (states_of tiers.old)
+        (words_of (K.patches keeper.old) (K.epochs keeper.old) (K.pinned keeper.old)
+        (K.session_uses keeper.old) (K.session_locks keeper.old)
+        (K.misses keeper.old)) (S.faults store.old) (S.taken store.old))
+        (moment_of (states_of tiers.new)
+        (words_of (K.patches keeper.new) (K.epochs keeper.new) (K.pinned keeper.new)
+        (K.session_uses keeper.new) (K.session_locks keeper.new)
+        (K.misses keeper.new)) (S.faults store.new) (S.taken store.new))) }
+    ensures refused { OnErr result
+        (RefusesTurn
+        (setting_of (board_of (W.wish_of wishes.now) (W.version_of wishes.now)) K.tells_sets
+        K.tells_misses index.now (file_bytes (S.files store.old) file)) tier
+        (moment_of (states_of tiers.old)
+        (words_of (K.patches keeper.old) (K.epochs keeper.old) (K.pinned keeper.old)
+        (K.session_uses keeper.old) (K.session_locks keeper.old)
+        (K.misses keeper.old)) (S.faults store.old) (S.taken store.old))
+        (moment_of (states_of tiers.new)
+        (words_of (K.patches keeper.new) (K.epochs keeper.new) (K.pinned keeper.new)
+        (K.session_uses keeper.new) (K.session_locks keeper.new)
+        (K.misses keeper.new)) (S.faults store.new) (S.taken store.new))) }
+    ensures takes { OnErr result
+        (TakesWishes (board_of (W.wish_of wishes.now) (W.version_of wishes.now)) tier
+        (states_of tiers.old) (states_of tiers.new)) }
+    ensures may { MayTurn
+        (setting_of (board_of (W.wish_of wishes.now) (W.version_of wishes.now)) K.tells_sets
+        K.tells_misses index.now (file_bytes (S.files store.old) file))
+        (moment_of (states_of tiers.new)
+        (words_of (K.patches keeper.new) (K.epochs keeper.new) (K.pinned keeper.new)
+        (K.session_uses keeper.new) (K.session_locks keeper.new) (K.misses keeper.new))
         (S.faults store.new) (S.taken store.new)) }
     ensures many { length tiers.new ≡ length tiers.old }
-    ensures upper { (t : TierState) → slice_get (states_of tiers.old) (suc tier) ≡ Some t → store.new ≡ store.old }
+    ensures upper { (t : TierState) → slice_get (states_of tiers.old) (suc tier) ≡ Some t
+        → store.new ≡ store.old }
     ensures files { S.files store.new ≡ S.files store.old }
     ensures place { K.place keeper.new ≡ K.place keeper.old }
 {

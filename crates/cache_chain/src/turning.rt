@@ -31,20 +31,33 @@ fn turn_over_tier<W: Wishes, K: Keeper>(
     requires sizes { sizes_of index.now ≡ tier.old.state.sizes }
     requires below { below.now.state.sizes ≡ sizes_of index.now }
     requires patches { length (sizes_of index.now) ≤ W.patches wishes.now }
-    requires wishes { KeepsWishes (board_of (W.wish_of wishes.now) (W.version_of wishes.now)) tier.old.state }
+    requires wishes { KeepsWishes (board_of (W.wish_of wishes.now) (W.version_of wishes.now))
+        tier.old.state }
     requires words { K.has_words ≡ true → length (sizes_of index.now) ≤ K.patches keeper.old }
-    requires tied { K.has_words ≡ true → IsTied tier.old.state (K.epochs keeper.old) (K.pinned keeper.old) }
+    requires tied { K.has_words ≡ true
+        → IsTied tier.old.state (K.epochs keeper.old) (K.pinned keeper.old) }
     ensures turns { TurnsState (board_of (W.wish_of wishes.now) (W.version_of wishes.now))
         (told_of (is_held below.now.state) K.has_words (K.epochs keeper.old))
-        (λ p body. slice_get below.now.state.held p ≡ Some (Some body)) result tier.old.state tier.new.state }
+        (λ p body. slice_get below.now.state.held p ≡ Some (Some body)) result tier.old.state
+        tier.new.state }
     ensures never { NeverFails result }
     ensures words { TurnsWords K.has_words K.tells_sets K.tells_misses result
-        (words_of (K.patches keeper.old) (K.epochs keeper.old) (K.pinned keeper.old) (K.session_uses keeper.old) (K.session_locks keeper.old) (K.misses keeper.old))
-        (words_of (K.patches keeper.new) (K.epochs keeper.new) (K.pinned keeper.new) (K.session_uses keeper.new) (K.session_locks keeper.new) (K.misses keeper.new)) }
-    ensures tied { K.has_words ≡ true → IsTied tier.new.state (K.epochs keeper.new) (K.pinned keeper.new) }
+        (words_of (K.patches keeper.old) (K.epochs keeper.old) (K.pinned keeper.old)
+        (K.session_uses keeper.old) (K.session_locks keeper.old) (K.misses keeper.old))
+        (words_of (K.patches keeper.new) (K.epochs keeper.new) (K.pinned keeper.new)
+        (K.session_uses keeper.new) (K.session_locks keeper.new) (K.misses keeper.new)) }
+    ensures tied { K.has_words ≡ true
+        → IsTied tier.new.state (K.epochs keeper.new) (K.pinned keeper.new) }
     ensures place { K.place keeper.new ≡ K.place keeper.old }
 {
-    turn(alloc, index, tier, &mut TierSupply { tier: below }, wishes, keeper)
+    turn(
+        alloc,
+        index,
+        tier,
+        &mut TierSupply { tier: below },
+        wishes,
+        keeper,
+    )
 }
 
 /// One turn of a tier over the file of this number.
@@ -60,19 +73,26 @@ fn turn_over_file<'s, S: Store, W: Wishes, K: Keeper>(
     requires file { HasFile (S.files store.old) file }
     requires sizes { sizes_of index.now ≡ tier.old.state.sizes }
     requires patches { length (sizes_of index.now) ≤ W.patches wishes.now }
-    requires wishes { KeepsWishes (board_of (W.wish_of wishes.now) (W.version_of wishes.now)) tier.old.state }
+    requires wishes { KeepsWishes (board_of (W.wish_of wishes.now) (W.version_of wishes.now))
+        tier.old.state }
     requires words { K.has_words ≡ true → length (sizes_of index.now) ≤ K.patches keeper.old }
-    requires tied { K.has_words ≡ true → IsTied tier.old.state (K.epochs keeper.old) (K.pinned keeper.old) }
+    requires tied { K.has_words ≡ true
+        → IsTied tier.old.state (K.epochs keeper.old) (K.pinned keeper.old) }
     ensures turns { TurnsState (board_of (W.wish_of wishes.now) (W.version_of wishes.now))
         (told_of (λ _. true) K.has_words (K.epochs keeper.old))
-        (IsFileBody index.now (file_bytes (S.files store.old) file)) result tier.old.state tier.new.state }
+        (IsFileBody index.now (file_bytes (S.files store.old) file)) result tier.old.state
+        tier.new.state }
     ensures files { S.files store.new ≡ S.files store.old }
-    ensures store { TurnsStore (FindsChanged index.now (file_bytes (S.files store.old) file)) tier.old.state result
-        (S.faults store.old) (S.faults store.new) (S.taken store.old) (S.taken store.new) }
+    ensures store { TurnsStore (FindsChanged index.now (file_bytes (S.files store.old) file))
+        tier.old.state result (S.faults store.old) (S.faults store.new) (S.taken store.old)
+        (S.taken store.new) }
     ensures words { TurnsWords K.has_words K.tells_sets K.tells_misses result
-        (words_of (K.patches keeper.old) (K.epochs keeper.old) (K.pinned keeper.old) (K.session_uses keeper.old) (K.session_locks keeper.old) (K.misses keeper.old))
-        (words_of (K.patches keeper.new) (K.epochs keeper.new) (K.pinned keeper.new) (K.session_uses keeper.new) (K.session_locks keeper.new) (K.misses keeper.new)) }
-    ensures tied { K.has_words ≡ true → IsTied tier.new.state (K.epochs keeper.new) (K.pinned keeper.new) }
+        (words_of (K.patches keeper.old) (K.epochs keeper.old) (K.pinned keeper.old)
+        (K.session_uses keeper.old) (K.session_locks keeper.old) (K.misses keeper.old))
+        (words_of (K.patches keeper.new) (K.epochs keeper.new) (K.pinned keeper.new)
+        (K.session_uses keeper.new) (K.session_locks keeper.new) (K.misses keeper.new)) }
+    ensures tied { K.has_words ≡ true
+        → IsTied tier.new.state (K.epochs keeper.new) (K.pinned keeper.new) }
     ensures place { K.place keeper.new ≡ K.place keeper.old }
 {
     let mut supply = StoreSupply { index, store, file };
@@ -104,21 +124,31 @@ pub fn turn_among<'s, S: Store, W: Wishes, K: Keeper>(
     requires file { HasFile (S.files store.old) file }
     requires sizes { HaveSizes (sizes_of index.now) (states_of tiers.old) }
     requires patches { length (sizes_of index.now) ≤ W.patches wishes.now }
-    requires wishes { AllKeepWishes (board_of (W.wish_of wishes.now) (W.version_of wishes.now)) (states_of tiers.old) }
+    requires wishes { AllKeepWishes (board_of (W.wish_of wishes.now) (W.version_of wishes.now))
+        (states_of tiers.old) }
     requires words { K.has_words ≡ true → length (sizes_of index.now) ≤ K.patches keeper.old }
-    requires tied { K.has_words ≡ true → (s : TierState) → slice_get (states_of tiers.old) tier ≡ Some s → IsTied s (K.epochs keeper.old) (K.pinned keeper.old) }
+    requires tied { K.has_words ≡ true → (s : TierState)
+        → slice_get (states_of tiers.old) tier ≡ Some s
+        → IsTied s (K.epochs keeper.old) (K.pinned keeper.old) }
     ensures turned { TurnsTier (board_of (W.wish_of wishes.now) (W.version_of wishes.now))
         (told_of (has_below (states_of tiers.old) tier) K.has_words (K.epochs keeper.old))
-        (GivesBelow (IsFileBody index.now (file_bytes (S.files store.old) file)) (states_of tiers.old) tier) tier result (states_of tiers.old) (states_of tiers.new) }
+        (GivesBelow (IsFileBody index.now (file_bytes (S.files store.old) file))
+        (states_of tiers.old) tier) tier result (states_of tiers.old) (states_of tiers.new) }
     ensures files { S.files store.new ≡ S.files store.old }
-    ensures lowest { slice_get (states_of tiers.old) (suc tier) ≡ None → (s : TierState) → slice_get (states_of tiers.old) tier ≡ Some s
+    ensures lowest { slice_get (states_of tiers.old) (suc tier) ≡ None → (s : TierState)
+        → slice_get (states_of tiers.old) tier ≡ Some s
         → TurnsStore (FindsChanged index.now (file_bytes (S.files store.old) file)) s result
         (S.faults store.old) (S.faults store.new) (S.taken store.old) (S.taken store.new) }
-    ensures upper { (t : TierState) → slice_get (states_of tiers.old) (suc tier) ≡ Some t → (store.new ≡ store.old) × NeverFails result }
+    ensures upper { (t : TierState) → slice_get (states_of tiers.old) (suc tier) ≡ Some t
+        → (store.new ≡ store.old) × NeverFails result }
     ensures words { TurnsWords K.has_words K.tells_sets K.tells_misses result
-        (words_of (K.patches keeper.old) (K.epochs keeper.old) (K.pinned keeper.old) (K.session_uses keeper.old) (K.session_locks keeper.old) (K.misses keeper.old))
-        (words_of (K.patches keeper.new) (K.epochs keeper.new) (K.pinned keeper.new) (K.session_uses keeper.new) (K.session_locks keeper.new) (K.misses keeper.new)) }
-    ensures tied { K.has_words ≡ true → (s : TierState) → slice_get (states_of tiers.new) tier ≡ Some s → IsTied s (K.epochs keeper.new) (K.pinned keeper.new) }
+        (words_of (K.patches keeper.old) (K.epochs keeper.old) (K.pinned keeper.old)
+        (K.session_uses keeper.old) (K.session_locks keeper.old) (K.misses keeper.old))
+        (words_of (K.patches keeper.new) (K.epochs keeper.new) (K.pinned keeper.new)
+        (K.session_uses keeper.new) (K.session_locks keeper.new) (K.misses keeper.new)) }
+    ensures tied { K.has_words ≡ true → (s : TierState)
+        → slice_get (states_of tiers.new) tier ≡ Some s
+        → IsTied s (K.epochs keeper.new) (K.pinned keeper.new) }
     ensures place { K.place keeper.new ≡ K.place keeper.old }
 {
     let place = tier as usize;

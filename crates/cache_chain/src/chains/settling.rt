@@ -35,38 +35,61 @@ impl<'a, S: Store> TierChain<'a, S> {
     ) -> Result<(), NoMemory>
         requires has_words { K.has_words ≡ true }
         requires patches { length self.old.mesh.lists.index.fields ≤ W.patches wishes.now }
-        requires wishes { AllKeepWishes (board_of (W.wish_of wishes.now) (W.version_of wishes.now)) self.old.tiers }
+        requires wishes { AllKeepWishes (board_of (W.wish_of wishes.now) (W.version_of wishes.now))
+            self.old.tiers }
         requires words { length self.old.mesh.lists.index.fields ≤ K.patches keeper.old }
-        requires tied { IsTopTied (chain_of self.old.tiers (K.epochs keeper.old)) (K.pinned keeper.old) }
+        requires tied { IsTopTied (chain_of self.old.tiers (K.epochs keeper.old))
+            (K.pinned keeper.old) }
 
-        ensures settled { IfOk result (λ _. LogsSettling 
-            (setting_of (board_of (W.wish_of wishes.now) (W.version_of wishes.now)) K.tells_sets K.tells_misses
-            self.old.mesh.lists.index (file_bytes (S.files self.old.store) self.old.file)) (length self.old.tiers) 
+        ensures settled { IfOk result
+            (λ _.
+            LogsSettling
+            (setting_of (board_of (W.wish_of wishes.now) (W.version_of wishes.now))
+            K.tells_sets K.tells_misses self.old.mesh.lists.index
+            (file_bytes (S.files self.old.store) self.old.file))
+            (length self.old.tiers)
             (moment_of self.old.tiers
-            (words_of (K.patches keeper.old) (K.epochs keeper.old) (K.pinned keeper.old) (K.session_uses keeper.old) (K.session_locks keeper.old) (K.misses keeper.old))
-            (S.faults self.old.store) (S.taken self.old.store)) 
+            (words_of (K.patches keeper.old) (K.epochs keeper.old)
+            (K.pinned keeper.old) (K.session_uses keeper.old)
+            (K.session_locks keeper.old) (K.misses keeper.old))
+            (S.faults self.old.store) (S.taken self.old.store))
             (moment_of self.new.tiers
-            (words_of (K.patches keeper.new) (K.epochs keeper.new) (K.pinned keeper.new) (K.session_uses keeper.new) (K.session_locks keeper.new) (K.misses keeper.new))
-            (S.faults self.new.store) (S.taken self.new.store)) log.old.items log.new.items) }
-        ensures stopped { OnErr result (LogsStop 
-            (setting_of (board_of (W.wish_of wishes.now) (W.version_of wishes.now)) K.tells_sets K.tells_misses
-            self.old.mesh.lists.index (file_bytes (S.files self.old.store) self.old.file)) 
+            (words_of (K.patches keeper.new) (K.epochs keeper.new)
+            (K.pinned keeper.new) (K.session_uses keeper.new)
+            (K.session_locks keeper.new) (K.misses keeper.new))
+            (S.faults self.new.store) (S.taken self.new.store)) log.old.items
+            log.new.items) }
+        ensures stopped { OnErr result
+            (LogsStop
+            (setting_of (board_of (W.wish_of wishes.now) (W.version_of wishes.now))
+            K.tells_sets K.tells_misses self.old.mesh.lists.index
+            (file_bytes (S.files self.old.store) self.old.file))
             (moment_of self.old.tiers
-            (words_of (K.patches keeper.old) (K.epochs keeper.old) (K.pinned keeper.old) (K.session_uses keeper.old) (K.session_locks keeper.old) (K.misses keeper.old))
-            (S.faults self.old.store) (S.taken self.old.store)) 
+            (words_of (K.patches keeper.old) (K.epochs keeper.old) (K.pinned keeper.old)
+            (K.session_uses keeper.old) (K.session_locks keeper.old)
+            (K.misses keeper.old)) (S.faults self.old.store)
+            (S.taken self.old.store))
             (moment_of self.new.tiers
-            (words_of (K.patches keeper.new) (K.epochs keeper.new) (K.pinned keeper.new) (K.session_uses keeper.new) (K.session_locks keeper.new) (K.misses keeper.new))
-            (S.faults self.new.store) (S.taken self.new.store)) log.old.items log.new.items) }
-        ensures facts { IsChain self.new.mesh.lists.index (S.files self.new.store) self.new.file self.new.tiers }
-        ensures wishes { AllKeepWishes (board_of (W.wish_of wishes.now) (W.version_of wishes.now)) self.new.tiers }
-        ensures tied { IsTopTied (chain_of self.new.tiers (K.epochs keeper.new)) (K.pinned keeper.new) }
+            (words_of (K.patches keeper.new) (K.epochs keeper.new) (K.pinned keeper.new)
+            (K.session_uses keeper.new) (K.session_locks keeper.new)
+            (K.misses keeper.new)) (S.faults self.new.store)
+            (S.taken self.new.store)) log.old.items log.new.items) }
+        ensures facts { IsChain self.new.mesh.lists.index (S.files self.new.store) self.new.file
+            self.new.tiers }
+        ensures wishes { AllKeepWishes (board_of (W.wish_of wishes.now) (W.version_of wishes.now))
+            self.new.tiers }
+        ensures tied { IsTopTied (chain_of self.new.tiers (K.epochs keeper.new))
+            (K.pinned keeper.new) }
 
         ensures later { S.faults self.old.store ≤ S.faults self.new.store }
         ensures files { S.files self.new.store ≡ S.files self.old.store }
         ensures pins { Stays (K.pinned keeper.old) (K.pinned keeper.new) }
-        ensures use_sets { K.tells_sets ≡ true → SetsStay (K.session_uses keeper.old) (K.session_uses keeper.new) }
-        ensures lock_sets { K.tells_sets ≡ true → SetsStay (K.session_locks keeper.old) (K.session_locks keeper.new) }
-        ensures keeper { (K.place keeper.new ≡ K.place keeper.old) × (K.patches keeper.new ≡ K.patches keeper.old) }
+        ensures use_sets { K.tells_sets ≡ true
+            → SetsStay (K.session_uses keeper.old) (K.session_uses keeper.new) }
+        ensures lock_sets { K.tells_sets ≡ true
+            → SetsStay (K.session_locks keeper.old) (K.session_locks keeper.new) }
+        ensures keeper { (K.place keeper.new ≡ K.place keeper.old)
+            × (K.patches keeper.new ≡ K.patches keeper.old) }
 
         ensures mesh { self.new.mesh ≡ self.old.mesh }
         ensures file { self.new.file ≡ self.old.file }
@@ -86,34 +109,73 @@ impl<'a, S: Store> TierChain<'a, S> {
     ) -> Result<(), NoMemory>
         requires has_words { K.has_words ≡ true }
         requires patches { length self.old.mesh.lists.index.fields ≤ W.patches wishes.now }
-        requires may { MayTurn (setting_of (board_of (W.wish_of wishes.now) (W.version_of wishes.now)) K.tells_sets K.tells_misses
-            self.old.mesh.lists.index (file_bytes (S.files self.old.store) self.old.file)) (moment_of self.old.tiers
-            (words_of (K.patches keeper.old) (K.epochs keeper.old) (K.pinned keeper.old) (K.session_uses keeper.old) (K.session_locks keeper.old) (K.misses keeper.old))
-            (S.faults self.old.store) (S.taken self.old.store)) }
-        ensures settled { IfOk result (λ _. LogsSettling (setting_of (board_of (W.wish_of wishes.now) (W.version_of wishes.now)) K.tells_sets K.tells_misses
-            self.old.mesh.lists.index (file_bytes (S.files self.old.store) self.old.file)) (length self.old.tiers) (moment_of self.old.tiers
-            (words_of (K.patches keeper.old) (K.epochs keeper.old) (K.pinned keeper.old) (K.session_uses keeper.old) (K.session_locks keeper.old) (K.misses keeper.old))
-            (S.faults self.old.store) (S.taken self.old.store)) (moment_of self.new.tiers
-            (words_of (K.patches keeper.new) (K.epochs keeper.new) (K.pinned keeper.new) (K.session_uses keeper.new) (K.session_locks keeper.new) (K.misses keeper.new))
-            (S.faults self.new.store) (S.taken self.new.store)) log.old.items log.new.items) }
-        ensures stopped { OnErr result (LogsStop (setting_of (board_of (W.wish_of wishes.now) (W.version_of wishes.now)) K.tells_sets K.tells_misses
-            self.old.mesh.lists.index (file_bytes (S.files self.old.store) self.old.file)) (moment_of self.old.tiers
-            (words_of (K.patches keeper.old) (K.epochs keeper.old) (K.pinned keeper.old) (K.session_uses keeper.old) (K.session_locks keeper.old) (K.misses keeper.old))
-            (S.faults self.old.store) (S.taken self.old.store)) (moment_of self.new.tiers
-            (words_of (K.patches keeper.new) (K.epochs keeper.new) (K.pinned keeper.new) (K.session_uses keeper.new) (K.session_locks keeper.new) (K.misses keeper.new))
-            (S.faults self.new.store) (S.taken self.new.store)) log.old.items log.new.items) }
-        ensures may { MayTurn (setting_of (board_of (W.wish_of wishes.now) (W.version_of wishes.now)) K.tells_sets K.tells_misses
-            self.old.mesh.lists.index (file_bytes (S.files self.old.store) self.old.file)) (moment_of self.new.tiers
-            (words_of (K.patches keeper.new) (K.epochs keeper.new) (K.pinned keeper.new) (K.session_uses keeper.new) (K.session_locks keeper.new) (K.misses keeper.new))
-            (S.faults self.new.store) (S.taken self.new.store)) }
+        requires may { MayTurn
+            (setting_of (board_of (W.wish_of wishes.now) (W.version_of wishes.now)) K.tells_sets
+            K.tells_misses self.old.mesh.lists.index
+            (file_bytes (S.files self.old.store) self.old.file))
+            (moment_of self.old.tiers
+            (words_of (K.patches keeper.old) (K.epochs keeper.old) (K.pinned keeper.old)
+            (K.session_uses keeper.old) (K.session_locks keeper.old)
+            (K.misses keeper.old)) (S.faults self.old.store) (S.taken self.old.store)) }
+        ensures settled { IfOk result
+            (λ _.
+            LogsSettling
+            (setting_of (board_of (W.wish_of wishes.now) (W.version_of wishes.now))
+            K.tells_sets K.tells_misses self.old.mesh.lists.index
+            (file_bytes (S.files self.old.store) self.old.file))
+            (length self.old.tiers)
+            (moment_of self.old.tiers
+            (words_of (K.patches keeper.old) (K.epochs keeper.old)
+            (K.pinned keeper.old) (K.session_uses keeper.old)
+            (K.session_locks keeper.old) (K.misses keeper.old))
+            (S.faults self.old.store) (S.taken self.old.store))
+            (moment_of self.new.tiers
+            (words_of (K.patches keeper.new) (K.epochs keeper.new)
+            (K.pinned keeper.new) (K.session_uses keeper.new)
+            (K.session_locks keeper.new) (K.misses keeper.new))
+            (S.faults self.new.store) (S.taken self.new.store)) log.old.items
+            log.new.items) }
+        ensures stopped { OnErr result
+            (LogsStop
+            (setting_of (board_of (W.wish_of wishes.now) (W.version_of wishes.now))
+            K.tells_sets K.tells_misses self.old.mesh.lists.index
+            (file_bytes (S.files self.old.store) self.old.file))
+            (moment_of self.old.tiers
+            (words_of (K.patches keeper.old) (K.epochs keeper.old) (K.pinned keeper.old)
+            (K.session_uses keeper.old) (K.session_locks keeper.old)
+            (K.misses keeper.old)) (S.faults self.old.store)
+            (S.taken self.old.store))
+            (moment_of self.new.tiers
+            (words_of (K.patches keeper.new) (K.epochs keeper.new) (K.pinned keeper.new)
+            (K.session_uses keeper.new) (K.session_locks keeper.new)
+            (K.misses keeper.new)) (S.faults self.new.store)
+            (S.taken self.new.store)) log.old.items log.new.items) }
+        ensures may { MayTurn
+            (setting_of (board_of (W.wish_of wishes.now) (W.version_of wishes.now)) K.tells_sets
+            K.tells_misses self.old.mesh.lists.index
+            (file_bytes (S.files self.old.store) self.old.file))
+            (moment_of self.new.tiers
+            (words_of (K.patches keeper.new) (K.epochs keeper.new) (K.pinned keeper.new)
+            (K.session_uses keeper.new) (K.session_locks keeper.new)
+            (K.misses keeper.new)) (S.faults self.new.store) (S.taken self.new.store)) }
         ensures files { S.files self.new.store ≡ S.files self.old.store }
         ensures place { K.place keeper.new ≡ K.place keeper.old }
-        ensures facts { IsChain self.new.mesh.lists.index (S.files self.new.store) self.new.file self.new.tiers }
+        ensures facts { IsChain self.new.mesh.lists.index (S.files self.new.store) self.new.file
+            self.new.tiers }
         ensures mesh { self.new.mesh ≡ self.old.mesh }
         ensures file { self.new.file ≡ self.old.file }
         ensures lender { self.new.lender ≡ self.old.lender }
     {
         let index = self.mesh.index();
-        settle_tiers(alloc, index, &mut self.tiers, self.store, self.file, wishes, keeper, log)
+        settle_tiers(
+            alloc,
+            index,
+            &mut self.tiers,
+            self.store,
+            self.file,
+            wishes,
+            keeper,
+            log,
+        )
     }
 }

@@ -31,13 +31,26 @@ impl<'a, S: Store> TierChain<'a, S> {
         requires some_budget { 1 ≤ length budgets.now }
         requires few { length budgets.now ≤ 4 }
         requires file { HasFile (S.files store.old) file }
-        ensures opened { IfOk result (λ chain. IsOpened mesh.now.lists.index (file_bytes (S.files store.old) file) budgets.now 1 chain.tiers) }
-        ensures facts { IfOk result (λ chain. IsChain chain.mesh.lists.index (S.files chain.store) chain.file chain.tiers) }
-        ensures large { slice_index budgets.now 0 < base_size mesh.now.lists → result ≡ Err (Budget (base_size mesh.now.lists) (slice_index budgets.now 0)) }
-        ensures budget { IfErr result (NamesBudget (base_size mesh.now.lists) (slice_index budgets.now 0)) }
+        ensures opened { IfOk result
+            (λ chain.
+            IsOpened mesh.now.lists.index (file_bytes (S.files store.old) file) budgets.now 1
+            chain.tiers) }
+        ensures facts { IfOk result
+            (λ chain. IsChain chain.mesh.lists.index (S.files chain.store) chain.file chain.tiers) }
+        ensures large { slice_index budgets.now 0 < base_size mesh.now.lists
+            → result ≡ Err (Budget (base_size mesh.now.lists) (slice_index budgets.now 0)) }
+        ensures budget { IfErr result
+            (NamesBudget (base_size mesh.now.lists) (slice_index budgets.now 0)) }
         ensures changed { IfErr result NamesBodyFault }
-        ensures told { IfSome (file_bytes (S.files store.old) file) (λ bytes. IfErr result (NamesChange mesh.now.lists.index bytes (outgoing mesh.now.lists.index.fields mesh.now.lists.root))) }
-        ensures taken { IfOk result (λ chain. S.taken chain.store ≡ taken_after (S.taken store.old) (base_size mesh.now.lists)) }
+        ensures told { IfSome (file_bytes (S.files store.old) file)
+            (λ bytes.
+            IfErr result
+            (NamesChange mesh.now.lists.index bytes
+            (outgoing mesh.now.lists.index.fields mesh.now.lists.root))) }
+        ensures taken { IfOk result
+            (λ chain.
+            S.taken chain.store
+            ≡ taken_after (S.taken store.old) (base_size mesh.now.lists)) }
         ensures later { IfOk result (λ chain. S.faults store.old ≤ S.faults chain.store) }
         ensures files { IfOk result (λ chain. S.files chain.store ≡ S.files store.old) }
         ensures mesh { IfOk result (λ chain. chain.mesh ≡ mesh.now) }
@@ -64,13 +77,26 @@ impl<'a, S: Store> TierChain<'a, S> {
         requires few { length budgets.now ≤ 4 }
         requires width { IsWidth width }
         requires file { HasFile (S.files store.old) file }
-        ensures opened { IfOk result (λ chain. IsOpened mesh.now.lists.index (file_bytes (S.files store.old) file) budgets.now width chain.tiers) }
-        ensures facts { IfOk result (λ chain. IsChain chain.mesh.lists.index (S.files chain.store) chain.file chain.tiers) }
-        ensures large { slice_index budgets.now 0 < base_size mesh.now.lists → result ≡ Err (Budget (base_size mesh.now.lists) (slice_index budgets.now 0)) }
-        ensures budget { IfErr result (NamesBudget (base_size mesh.now.lists) (slice_index budgets.now 0)) }
+        ensures opened { IfOk result
+            (λ chain.
+            IsOpened mesh.now.lists.index (file_bytes (S.files store.old) file) budgets.now
+            width chain.tiers) }
+        ensures facts { IfOk result
+            (λ chain. IsChain chain.mesh.lists.index (S.files chain.store) chain.file chain.tiers) }
+        ensures large { slice_index budgets.now 0 < base_size mesh.now.lists
+            → result ≡ Err (Budget (base_size mesh.now.lists) (slice_index budgets.now 0)) }
+        ensures budget { IfErr result
+            (NamesBudget (base_size mesh.now.lists) (slice_index budgets.now 0)) }
         ensures changed { IfErr result NamesBodyFault }
-        ensures told { IfSome (file_bytes (S.files store.old) file) (λ bytes. IfErr result (NamesChange mesh.now.lists.index bytes (outgoing mesh.now.lists.index.fields mesh.now.lists.root))) }
-        ensures taken { IfOk result (λ chain. S.taken chain.store ≡ taken_after (S.taken store.old) (base_size mesh.now.lists)) }
+        ensures told { IfSome (file_bytes (S.files store.old) file)
+            (λ bytes.
+            IfErr result
+            (NamesChange mesh.now.lists.index bytes
+            (outgoing mesh.now.lists.index.fields mesh.now.lists.root))) }
+        ensures taken { IfOk result
+            (λ chain.
+            S.taken chain.store
+            ≡ taken_after (S.taken store.old) (base_size mesh.now.lists)) }
         ensures later { IfOk result (λ chain. S.faults store.old ≤ S.faults chain.store) }
         ensures files { IfOk result (λ chain. S.files chain.store ≡ S.files store.old) }
         ensures mesh { IfOk result (λ chain. chain.mesh ≡ mesh.now) }

@@ -1,11 +1,11 @@
 -- The base patches are few, and their bodies open the first tier.
-use Rattle.std.proofs.Common.{◌≡◌, ◌∙◌, ◌<◌, ◌≤◌, ℕ, List, sym, ap, ap₂, subst, length, map, arith}
+use Rattle.std.proofs.Common.{◌<◌, ◌≤◌, ℕ, List, sym, ap₂, subst, length, map, arith}
 use Rattle.std.specs.Prelude.{slice_index, slice_index_or}
 use Rattle.std.specs.Arc.{arc_value}
 use Rattle.std.proofs.lemmas.Result.{err_from_is_err_and}
 use Rattle.view_outside.specs.Files.{file_bytes}
 use Rattle.view_outside.specs.Taken.{RisesBelow}
-use Rattle.file_model.specs.Lists.{IndexLists, SeenBody}
+use Rattle.file_model.specs.Lists.{IndexLists}
 use Rattle.mesh_model.specs.Graph.{leads_from, outgoing}
 use Rattle.tier_model.specs.Tiers.{TierState}
 use Rattle.body_loads.specs.Loads.{sizes_sum}

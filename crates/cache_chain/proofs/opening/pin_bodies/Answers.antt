@@ -3,8 +3,7 @@ use Rattle.std.proofs.Common.{◌≡◌, ◌∙◌, refl, sym, ap, subst, List, 
 use Rattle.std.specs.Arc.{arc_value}
 use Rattle.std.specs.Vec.Iter.{into_iter_items}
 use Rattle.tier_model.specs.Tiers.{TierState}
-use Rattle.tier_model.specs.Changes.{with_pin}
-use Rattle.cache_chain.specs.Opening.{with_pins, MayPin, MayPinAll}
+use Rattle.cache_chain.specs.Opening.{with_pins, MayPinAll}
 use Rattle.cache_chain.proofs.opening.pin_bodies.Goals as goal
 
 pub pin-requires-clause-away : goal.pin-requires-clause-away

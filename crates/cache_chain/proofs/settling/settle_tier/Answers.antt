@@ -1,5 +1,5 @@
 -- Each turn goes on from those before it, which are few.
-use Rattle.std.proofs.Common.{◌≡◌, ◌≢◌, ◌∙◌, ◌+◌, ◌-◌, ◌<◌, ◌≤◌, ℕ, suc, List, length, refl, sym, ap, subst, arith, rules}
+use Rattle.std.proofs.Common.{◌≡◌, ◌≢◌, ◌∙◌, List, refl, subst, arith, rules}
 use Rattle.std.proofs.lemmas.List.{length-map}
 use Rattle.view_outside.specs.Files.{file_bytes}
 use Rattle.transfer_step.specs.TurnWords.{board_of}

@@ -1,6 +1,5 @@
 -- Each tier settles behind those below it.
-use Rattle.std.proofs.Common.{◌≡◌, ◌≢◌, ◌∙◌, ◌+◌, ◌-◌, ◌<◌, ◌≤◌, ℕ, suc, List, length, refl, sym, ap, subst, arith, rules}
-use Rattle.std.proofs.lemmas.List.{length-map}
+use Rattle.std.proofs.Common.{◌≡◌, ◌∙◌, ◌-◌, ℕ, suc, List, length, refl, subst, arith}
 use Rattle.view_outside.specs.Files.{file_bytes}
 use Rattle.transfer_step.specs.TurnWords.{board_of}
 use Rattle.cache_chain.specs.ChainStates.{states_of}
@@ -8,7 +7,6 @@ use Rattle.cache_chain.specs.WordTurns.{words_of}
 use Rattle.cache_chain.specs.TurnRuns.{setting_of, moment_of}
 use Rattle.view_outside.specs.Files.{Named}
 use Rattle.std.specs.Prelude.{Option}
-use Rattle.tier_budget.specs.TierView.{TierSeen}
 use Rattle.cache_chain.specs.SettleRuns.{MayTurn, LogsTier, LogsHalf, LogsStop}
 use Rattle.cache_chain.proofs.LogLaws.{half_begins, half_more, half_stops, half_ends, at_error}
 use Rattle.cache_chain.proofs.settling.settle_tiers.Goals as goal

@@ -1,15 +1,12 @@
 -- A turn of a lower tier is a turn of the chain, and leaves the words.
-use Rattle.std.proofs.Common.{◌≡◌, ◌∙◌, ℕ, List, length, sym, ap, subst, refl, false}
-use Rattle.std.proofs.lemmas.List.{length-map}
+use Rattle.std.proofs.Common.{ap, refl, false}
 use Rattle.view_outside.specs.Files.{file_bytes}
-use Rattle.file_model.specs.Lists.{body_size}
-use Rattle.tier_model.specs.Tiers.{TierState}
 use Rattle.transfer_step.specs.TurnWords.{board_of}
 use Rattle.cache_chain.specs.ChainStates.{states_of}
-use Rattle.cache_chain.specs.WordTurns.{WordsSeen, words_of}
-use Rattle.cache_chain.specs.TurnRuns.{Setting, Moment, setting_of, moment_of}
+use Rattle.cache_chain.specs.WordTurns.{words_of}
+use Rattle.cache_chain.specs.TurnRuns.{setting_of, moment_of}
 use Rattle.cache_chain.proofs.ListParts.{many_states}
-use Rattle.cache_chain.proofs.TurnClauses.{StoreSays, TurnsOf, makes_top, makes_lower, refuses_top, refuses_lower, may_top, may_lower, takes_at_error, as_many_tiers, sizes_same, fields_sized}
+use Rattle.cache_chain.proofs.TurnClauses.{StoreSays, makes_lower, refuses_lower, may_lower, takes_at_error, sizes_same, fields_sized}
 use Rattle.cache_chain.proofs.tier_turns.turn_lower.Goals as goal
 
 pub turn_among-requires-clause-sizes : goal.turn_among-requires-clause-sizes

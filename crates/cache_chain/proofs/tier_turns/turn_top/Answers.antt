@@ -1,16 +1,13 @@
 -- A turn of the top tier is a turn of the chain.
-use Rattle.std.proofs.Common.{◌≡◌, ◌∙◌, ℕ, List, length, sym, ap, subst, refl, false, Some}
+use Rattle.std.proofs.Common.{◌≡◌, ℕ, ap, subst, Some}
 use Rattle.std.specs.Prelude.{slice_get}
-use Rattle.std.proofs.lemmas.List.{length-map}
 use Rattle.view_outside.specs.Files.{file_bytes}
-use Rattle.file_model.specs.Lists.{body_size}
-use Rattle.tier_model.specs.Tiers.{TierState}
 use Rattle.transfer_step.specs.TurnWords.{board_of}
 use Rattle.cache_chain.specs.ChainStates.{states_of}
-use Rattle.cache_chain.specs.WordTurns.{WordsSeen, words_of}
-use Rattle.cache_chain.specs.TurnRuns.{Setting, Moment, setting_of, moment_of}
+use Rattle.cache_chain.specs.WordTurns.{words_of}
+use Rattle.cache_chain.specs.TurnRuns.{setting_of, moment_of}
 use Rattle.cache_chain.proofs.ListParts.{many_states}
-use Rattle.cache_chain.proofs.TurnClauses.{StoreSays, TurnsOf, makes_top, makes_lower, refuses_top, refuses_lower, may_top, may_lower, takes_at_error, as_many_tiers, sizes_same, fields_sized}
+use Rattle.cache_chain.proofs.TurnClauses.{StoreSays, makes_top, refuses_top, may_top, takes_at_error, sizes_same, fields_sized}
 use Rattle.cache_chain.proofs.tier_turns.turn_top.Goals as goal
 
 pub turn_among-requires-clause-sizes : goal.turn_among-requires-clause-sizes

@@ -1,6 +1,5 @@
 -- The turned tier is the last before the split, and the next is the first behind it.
-use Rattle.std.proofs.Common.{◌≡◌, ◌∙◌, sym, subst, ℕ, suc, Some, None}
-use Rattle.std.specs.Prelude.{slice_index_or}
+use Rattle.std.proofs.Common.{◌≡◌, ◌∙◌, sym, subst, suc, Some, None}
 use Rattle.std.proofs.lemmas.Option.{same_Some}
 use Rattle.view_outside.specs.Files.{file_bytes}
 use Rattle.tier_model.specs.Tiers.{TierState}

@@ -1,8 +1,7 @@
 -- The turn's clauses, put together. What lies below is the file; the store that is left behind is the supply's, since
 -- the supply kept its lender.
-use Rattle.std.proofs.Common.{◌≡◌, List, ℕ, refl, sym, ap, subst, ◌∙◌}
+use Rattle.std.proofs.Common.{refl, sym, ap, subst, ◌∙◌}
 use Rattle.view_outside.specs.Files.{file_bytes}
-use Rattle.file_model.specs.Lists.{SeenBody}
 use Rattle.tier_model.specs.Tiers.{body_at}
 use Rattle.transfer_step.specs.Supplies.{StorePlace, GivesFile, FindsInFile}
 use Rattle.cache_chain.specs.ChainStates.{IsFileBody, FindsChanged}

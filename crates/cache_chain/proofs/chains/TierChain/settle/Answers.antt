@@ -1,5 +1,5 @@
 -- The fact that the settling says, part by part.
-use Rattle.std.proofs.Common.{◌≡◌, length}
+use Rattle.std.proofs.Common.{length}
 use Rattle.view_outside.specs.Files.{file_bytes}
 use Rattle.transfer_step.specs.TurnWords.{board_of}
 use Rattle.cache_chain.specs.WordTurns.{words_of}

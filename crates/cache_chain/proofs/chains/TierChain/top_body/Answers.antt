@@ -1,9 +1,9 @@
 -- The top tier has as many patches as the index.
-use Rattle.std.proofs.Common.{◌≡◌, ◌<◌, ◌∙◌, ap, length, slice_index_or, arith}
+use Rattle.std.proofs.Common.{◌∙◌, ap, length, slice_index_or, arith}
 use Rattle.std.proofs.lemmas.List.{length-map}
 use Rattle.file_model.specs.Lists.{body_size}
 use Rattle.tier_budget.specs.TierView.{TierSeen}
-use Rattle.cache_chain.specs.ChainStates.{ChainSeen, states_of}
+use Rattle.cache_chain.specs.ChainStates.{ChainSeen}
 use Rattle.cache_chain.proofs.ListParts.{state_at}
 use Rattle.cache_chain.proofs.chains.TierChain.top_body.Goals as goal
 
