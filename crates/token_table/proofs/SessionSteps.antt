@@ -15,7 +15,7 @@ use Rattle.token_table.specs.declared.knowledge.View.{View}
 use Rattle.token_table.specs.declared.knowledge.View.TheVariants.{Spent, Session, Keeper}
 use Rattle.token_table.specs.Known.{has, without, IsHolder, total, uses_of, own_uses, one_if}
 use Rattle.token_table.specs.WordRule.{IsKept, Holds}
-use Rattle.token_table.specs.Changes.{after_try, after_leave, Tries, Leaves}
+use Rattle.token_table.specs.Changes.{after_try, after_leave, Tries, Leaves, seated}
 use Rattle.token_table.proofs.Totals.{total-at}
 use Rattle.token_table.proofs.Sets.{has-with, has-with_other, has-without, has-without_other}
 use Rattle.token_table.proofs.Orders.{tries-more}
@@ -89,10 +89,10 @@ module _ (epochs : List ℕ) (own : Own) (p : ℕ) (holds : IsHolder epochs own)
     tries = holds.tries;
   }
 
-module _ {S : Type 0} (count slots id p : ℕ) (own : Own) (within : p < count) where
+module _ (S : Type 0) (count slots id p : ℕ) (own : Own) (within : p < count) where
   -- a try adds one use
   pub try_allowed : has own.uses p ≡ false
-      → Allows (Holds {S = S} count) slots id (Session own, []) p (λ n. (n + 1) % 18446744073709551616) (Tries (step slots p 1 0 none) (Session own, []))
+      → Allows (Holds {S = S} count) slots id (seated {S = S} (Session own)) p (λ n. (n + 1) % 18446744073709551616) (Tries (step slots p 1 0 none) (seated {S = S} (Session own)))
   try_allowed free s (keeper, desk, kept) sized at fits =
       let word : ℕ = get_or s.words p 0 in
       let epoch : ℕ = get_or desk.epochs p 0 in
@@ -116,18 +116,18 @@ module _ {S : Type 0} (count slots id p : ℕ) (own : Own) (within : p < count) 
         keeps,
         tt,
         (keeper, desk, rw whole after),
-        λ other is_own. let same : own ≡ other = cc in rw found (ap (λ (o : Own). (Session (after_try p epoch o), [])) same),
+        λ other is_own. let same : own ≡ other = cc in rw found (ap (λ (o : Own). (seated {S = S} (Session (after_try p epoch o)))) same),
       )
 
   -- a withdrawal or a given back lock takes one use away
   pub leave_allowed : has own.uses p ≡ true
-      → Allows (Holds {S = S} count) slots id (Session own, []) p (λ n. (n + 18446744073709551615) % 18446744073709551616) (Leaves (step slots p 1 0 none) (Session own, []))
-  leave_allowed used s (keeper, desk, kept) sized at fits =
+      → Allows (Holds {S = S} count) slots id (seated {S = S} (Session own)) p (λ n. (n + 18446744073709551615) % 18446744073709551616) (Leaves (step slots p 1 0 none) (seated {S = S} (Session own)))
+  leave_allowed uses_it s (keeper, desk, kept) sized at fits =
       let word : ℕ = get_or s.words p 0 in
       let epoch : ℕ = get_or desk.epochs p 0 in
       let uses : ℕ = total (uses_of p) s.views in
       let is : word ≡ epoch * 4294967296 + uses = kept.word_is p within in
-      let one : own_uses p own ≡ 1 = ap one_if used in
+      let one : own_uses p own ≡ 1 = ap one_if uses_it in
       let least : uses_of p (Session own) ≤ uses = total-at (uses_of p) s.views id (Session own) at in
       let turn : word + 18446744073709551615 ≡ (word - 1) + 18446744073709551616 = omega arith in
       let whole : (word + 18446744073709551615) % 18446744073709551616 ≡ word - 1 = rw turn (add-mod_right (word - 1) 18446744073709551616 ∙ mod-eq_of_lt (omega arith)) in
@@ -144,5 +144,5 @@ module _ {S : Type 0} (count slots id p : ℕ) (own : Own) (within : p < count) 
         keeps,
         tt,
         (keeper, desk, rw whole after),
-        λ other is_own. let same : own ≡ other = cc in ap (λ (o : Own). (Session (after_leave p o), [])) same,
+        λ other is_own. let same : own ≡ other = cc in ap (λ (o : Own). (seated {S = S} (Session (after_leave p o)))) same,
       )

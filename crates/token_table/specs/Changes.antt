@@ -51,25 +51,29 @@ with_guest guest desk = record desk { guest = guest }
 abbrev pub with_ended : Own → Desk → Desk
 with_ended own desk = record desk { ended = desk.ended ++ record { number = own.number; tries = own.tries } ∷ [] }
 
+-- a seat that knows this and has taken no slot
+abbrev pub seated : {S : Type 0} → View → Me S View
+seated view = (view, [])
+
 module _ {S : Type 0} where
   -- the answer to a try is the epoch of the word that was found, and the tries grow by it
   abbrev pub Tries : Step S → Me S View → ℕ → Me S View → Type 0
-  Tries step me found next = (own : Own) → me.0 ≡ Session own → next ≡ (Session (after_try step.word (found / 4294967296) own), [])
+  Tries step me found next = (own : Own) → me.0 ≡ Session own → next ≡ seated (Session (after_try step.word (found / 4294967296) own))
 
   abbrev pub Leaves : Step S → Me S View → ℕ → Me S View → Type 0
-  Leaves step me found next = (own : Own) → me.0 ≡ Session own → next ≡ (Session (after_leave step.word own), [])
+  Leaves step me found next = (own : Own) → me.0 ≡ Session own → next ≡ seated (Session (after_leave step.word own))
 
   abbrev pub Admits : Step S → Me S View → ℕ → Me S View → Type 0
-  Admits step me found next = (desk : Desk) → me.0 ≡ Keeper desk → (next ≡ (Keeper (with_risen step.word desk), [])) × IsDesk (with_risen step.word desk)
+  Admits step me found next = (desk : Desk) → me.0 ≡ Keeper desk → (next ≡ seated (Keeper (with_risen step.word desk))) × IsDesk (with_risen step.word desk)
 
   -- the uses are those of the word that was found
   abbrev pub Evicts : Step S → Me S View → ℕ → Me S View → Type 0
   Evicts step me found next = (desk : Desk) → me.0 ≡ Keeper desk
-      → (uses : ℕ) × (found ≡ slice_index desk.epochs step.word * 4294967296 + uses) × (uses ≤ 65) × (next ≡ (Keeper (after_eviction step.word uses desk), [])) × IsDesk (after_eviction step.word uses desk)
+      → (uses : ℕ) × (found ≡ slice_index desk.epochs step.word * 4294967296 + uses) × (uses ≤ 65) × (next ≡ seated (Keeper (after_eviction step.word uses desk))) × IsDesk (after_eviction step.word uses desk)
 
   -- nothing changes, and what the keeper knows is seen to fit
   abbrev pub Watches : Step S → Me S View → ℕ → Me S View → Type 0
-  Watches step me found next = (desk : Desk) → me.0 ≡ Keeper desk → (next ≡ (Keeper desk, [])) × IsDesk desk
+  Watches step me found next = (desk : Desk) → me.0 ≡ Keeper desk → (next ≡ seated (Keeper desk)) × IsDesk desk
 
 -- the keeper's seat takes in the session's
 abbrev pub welcoming : View → View → View
