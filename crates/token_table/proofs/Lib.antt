@@ -6,3 +6,4 @@ pub mod Facts
 pub mod SessionSteps
 pub mod KeeperSteps
 pub mod Passages
+pub mod Seated

@@ -1,3 +1,5 @@
 pub mod Known
 pub mod WordRule
 pub mod Changes
+pub mod Seats
+pub mod Tables

@@ -7,5 +7,11 @@
 #![tactic(auto)]
 
 mod knowledge;
+mod plays;
+mod seats;
+mod tables;
+mod word_rule;
 
 pub use knowledge::{Desk, Ended, Own, View};
+pub use seats::{KeeperSeat, SessionSeat};
+pub use tables::TokenTable;
