@@ -7,3 +7,6 @@ pub mod SessionSteps
 pub mod KeeperSteps
 pub mod Passages
 pub mod Seated
+pub mod Openings
+pub mod Rows
+pub mod Plain

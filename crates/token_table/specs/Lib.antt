@@ -3,3 +3,5 @@ pub mod WordRule
 pub mod Changes
 pub mod Seats
 pub mod Tables
+pub mod Makings
+pub mod Closings

@@ -6,12 +6,15 @@
 //! two steps.
 #![tactic(auto)]
 
+mod closing;
 mod knowledge;
+mod making;
 mod plays;
 mod seats;
 mod tables;
 mod word_rule;
 
 pub use knowledge::{Desk, Ended, Own, View};
+pub use making::Made;
 pub use seats::{KeeperSeat, SessionSeat};
 pub use tables::TokenTable;

@@ -10,7 +10,7 @@ use std::marker::Model;
 use token_words::{Evict, LAST_EPOCH, Seen};
 
 /// One more of a patch's epoch in its word.
-const ONE_EPOCH: u64 = 4_294_967_296;
+pub(crate) const ONE_EPOCH: u64 = 4_294_967_296;
 
 /// The words of all patches, which many threads change. A table is seen as what tells it from
 /// others; that has the number of words.
