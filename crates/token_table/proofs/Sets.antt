@@ -3,6 +3,9 @@ use Rattle.std.proofs.Common.{◌≡◌, ◌≢◌, ℕ, suc, ◌+◌, ◌≤◌
 use Rattle.std.specs.List.{list_any, filter}
 use Rattle.std.proofs.lemmas.Bool.Decides.{eqb_tells}
 use Rattle.std.proofs.lemmas.Map.Views.{any-filter_same}
+use mathlib.Core.Logic.{dite}
+use native.Mathlib.Decide.{ℕ_discrete}
+use Rattle.token_words.specs.Changes.{SetAt, Stays}
 use Rattle.token_table.specs.Known.{has, without, one_if}
 
 pub nat_eq-same : (p : ℕ) → nat_eq p p ≡ true
@@ -40,3 +43,13 @@ one_if-le false = omega arith
 pub has-none : (patches : List ℕ) → ((p : ℕ) → has patches p ≡ false) → patches ≡ []
 has-none [] none = refl
 has-none (p ∷ patches) none = let here : true ≡ false = sym (has-with patches p) ∙ none p in absurd (cc)
+
+-- a patch leaves a set
+pub leaves : (patches : List ℕ) (p : ℕ) → SetAt (has patches) p false (has (without patches p))
+leaves patches p = record { here = has-without patches p; others = λ q apart. has-without_other patches p q apart }
+
+-- a patch that isn't in a set leaves it as it is
+pub leaves_none : (patches : List ℕ) (p : ℕ) → has patches p ≡ false → Stays (has patches) (has (without patches p))
+leaves_none patches p none q = dite (ℕ_discrete q p)
+    (λ same. ap (λ (r : ℕ). has (without patches p) r) same ∙ (has-without patches p ∙ (sym none ∙ ap (λ (r : ℕ). has patches r) (sym same))))
+    (λ apart. has-without_other patches p q apart)

@@ -5,3 +5,4 @@ pub mod Seats
 pub mod Tables
 pub mod Makings
 pub mod Closings
+pub mod Places

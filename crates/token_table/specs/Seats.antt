@@ -1,5 +1,5 @@
 -- What contracts see of the seats.
-use Rattle.std.specs.Prelude.{◌≡◌, ℕ, Bool, true, List, [], length, None, slice_index, nat_eq}
+use Rattle.std.specs.Prelude.{◌≡◌, ℕ, Bool, true, false, List, [], length, None, slice_index, nat_eq}
 use Rattle.atomic_table.specs.Table.{Me}
 use Rattle.atomic_table.specs.Seated.{TableId}
 use Rattle.token_table.specs.declared.knowledge.Own.{Own}
@@ -45,3 +45,7 @@ pub record IsAtDesk {S : Type 0} (table : TableId) (me : Me S View) (epochs : Li
 -- whether a patch is pinned
 abbrev pub is_pinned : Desk → ℕ → Bool
 is_pinned desk p = nat_eq (slice_index desk.pins p) 1
+
+-- false isn't true
+pub no_sets : {A : Type 0} → false ≡ true → A
+no_sets told = absurd (cc)

@@ -28,3 +28,7 @@ Holds count s = (keeper : ℕ) × (desk : Desk) × IsKept count keeper desk s.wo
 -- what the keeper knows at the making: these epochs, in which each patch that is there is pinned
 abbrev pub opened : List ℕ → Desk
 opened epochs = record { made = 0; pins = epochs; epochs = epochs; guest = None; ended = []; misses = [] }
+
+-- who has no words knows nothing
+abbrev pub no_desk : Desk
+no_desk = opened []

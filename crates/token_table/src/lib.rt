@@ -7,14 +7,20 @@
 #![tactic(auto)]
 
 mod closing;
+mod keeper_words;
 mod knowledge;
 mod making;
+mod members;
 mod plays;
 mod seats;
+mod shared_words;
 mod tables;
 mod word_rule;
 
+pub use keeper_words::KeeperWords;
 pub use knowledge::{Desk, Ended, Own, View};
 pub use making::Made;
+pub use members::{Member, TierSeat};
 pub use seats::{KeeperSeat, SessionSeat};
+pub use shared_words::SharedWords;
 pub use tables::TokenTable;
