@@ -132,9 +132,9 @@ module _ (S : Type 0) (count slots id p : ℕ) (desk : Desk) (within : p < count
       let before = kept.word_is p within in
       let sum : word + uses_of p (Keeper desk) ≡ get_or (set desk.epochs p (get_or desk.epochs p 0 + 1)) p 0 * 4294967296 + total (uses_of p) s.views + uses_of p (Keeper desk) = rw read (omega arith) in
       let words = words_after count desk.epochs (set desk.epochs p (get_or desk.epochs p 0 + 1)) s.words s.views id (Keeper desk) (Keeper (with_risen p desk)) p word
-          kept.word_is kept.many within kept.sits sum (λ q apart. refl) (λ q apart. get_or-set_other desk.epochs p q (get_or desk.epochs p 0 + 1) 0 apart) in
+      kept.word_is kept.many within kept.sits sum (λ q apart. refl) (λ q apart. get_or-set_other desk.epochs p q (get_or desk.epochs p 0 + 1) 0 apart) in
       desk_moves count id desk s.words s.views kept (with_risen p desk) (set s.words p word) fits (length-set desk.epochs p (get_or desk.epochs p 0 + 1))
-          (λ own seat at. holder_risen desk.epochs p inside own (kept.holders seat own at) (unlocked seat own at)) refl (λ n. refl) refl (length-set s.words p word) words
+      (λ own seat at. holder_risen desk.epochs p inside own (kept.holders seat own at) (unlocked seat own at)) refl (λ n. refl) refl (length-set s.words p word) words
 
   -- an admission adds 2^32
   pub admit_allowed : is_odd (get_or desk.epochs p 0) ≡ false → get_or desk.epochs p 0 < 4294967294
@@ -145,8 +145,7 @@ module _ (S : Type 0) (count slots id p : ℕ) (desk : Desk) (within : p < count
       let is = kept.word_is p within in
       let whole : (get_or s.words p 0 + 4294967296) % 18446744073709551616 ≡ get_or s.words p 0 + 4294967296 = mod-eq_of_lt (omega arith) in
       let after = rises s kept (get_or s.words p 0 + 4294967296) refl low (unpinned_even desk p kept.fits even) (guest_even desk.epochs p desk.guest kept.fits.guest even)
-          (λ seat own there. locks_even desk.epochs p own (kept.holders seat own there) even) in
-      (
+      (λ seat own there. locks_even desk.epochs p own (kept.holders seat own there) even) in (
         Keeper (with_risen p desk),
         keeps,
         tt,
@@ -165,11 +164,11 @@ module _ (S : Type 0) (count slots id p : ℕ) (desk : Desk) (within : p < count
       let there = read p in
       let sum : get_or s.words p 0 + uses_of p (Keeper desk) ≡ get_or desk'.epochs p 0 * 4294967296 + total (uses_of p) s.views + uses_of p (Keeper desk') = rw (there, here) (omega arith) in
       let words = words_after count desk.epochs desk'.epochs s.words s.views id (Keeper desk) (Keeper desk') p (get_or s.words p 0)
-          kept.word_is kept.many within kept.sits sum (λ q apart. uses q) (λ q apart. read q) in
+      kept.word_is kept.many within kept.sits sum (λ q apart. uses q) (λ q apart. read q) in
       desk_moves count id desk s.words s.views kept desk' (set s.words p (get_or s.words p 0)) fits (ap length epochs)
-          (λ own seat there. subst (λ es. IsHolder es own) (sym epochs) (kept.holders seat own there))
-          (ap (λ (d : Desk). desk_allowance d) same) (λ n. ap (λ (d : Desk). desk_numbers n d) same)
-          (ap (λ (d : Desk). d.made) same) (length-set s.words p (get_or s.words p 0)) words
+      (λ own seat there. subst (λ es. IsHolder es own) (sym epochs) (kept.holders seat own there))
+      (ap (λ (d : Desk). desk_allowance d) same) (λ n. ap (λ (d : Desk). desk_numbers n d) same)
+      (ap (λ (d : Desk). d.made) same) (length-set s.words p (get_or s.words p 0)) words
 
   -- an eviction goes through exactly where there was no use, and else keeps the uses found
   pub evict_allowed : (old new : ℕ) → old ≡ get_or desk.epochs p 0 * 4294967296 → new ≡ old + 4294967296 → is_odd (get_or desk.epochs p 0) ≡ true
@@ -188,16 +187,16 @@ module _ (S : Type 0) (count slots id p : ℕ) (desk : Desk) (within : p < count
           let least = total-at (uses_of p) s.views id (Keeper desk) kept.sits in
           let low = below_last (get_or desk.epochs p 0) (kept.fits.last p) odd in
           let after = rises s kept new (omega arith) low (omega arith) (guest_unused desk.epochs p desk.guest kept.fits.guest (omega arith))
-              (unlocked-session count id desk s.words s.views kept p unused) in
-          (
+          (unlocked-session count id desk s.words s.views kept p unused) in (
             Keeper (with_risen p desk),
             keeps,
             tt,
             (id, with_risen p desk, rw hit after),
             λ other same. let one : desk ≡ other = cc in
                 subst (λ d. (uses : ℕ) × (get_or s.words p 0 ≡ get_or d.epochs p 0 * 4294967296 + uses) × (uses ≤ 65) × ((seated {S = S} (Keeper (with_risen p desk))) ≡ (seated {S = S} (Keeper (after_eviction p uses d)))) × IsDesk (after_eviction p uses d)) one
-                    (0, omega arith, omega arith, refl, after.fits),
+                (0, omega arith, omega arith, refl, after.fits),
           )
+
       lost : IsKept count id desk s.words s.views → total (uses_of p) s.views ≢ 0
           → (w : View) × (a : Act S) × Valid s.homes [] a
           × Holds count (stepped s p (either (get_or s.words p 0 == old) new (get_or s.words p 0)) id [] w a)
@@ -209,23 +208,21 @@ module _ (S : Type 0) (count slots id p : ℕ) (desk : Desk) (within : p < count
           let miss : eqb (get_or s.words p 0) old ≡ false = ne_eqb (get_or s.words p 0) old (λ e. used (omega arith)) in
           let desk' : Desk = record desk { misses = desk.misses ++ (p, uses) ∷ [] } in
           let is_missed : after_eviction p uses desk ≡ desk' = rw (nat_eq-other uses 0 used) refl in
-          let after : IsKept count id desk' (set s.words p (get_or s.words p 0)) (set s.views id (Keeper desk')) = stays s kept desk' (missed desk p uses kept.fits (omega arith)) refl in
-          (
+          let after : IsKept count id desk' (set s.words p (get_or s.words p 0)) (set s.views id (Keeper desk')) = stays s kept desk' (missed desk p uses kept.fits (omega arith)) refl in (
             Keeper desk',
             keeps,
             tt,
             (id, desk', rw miss after),
             λ other same. let one : desk ≡ other = cc in
                 subst (λ d. (uses : ℕ) × (get_or s.words p 0 ≡ get_or d.epochs p 0 * 4294967296 + uses) × (uses ≤ 65) × ((seated {S = S} (Keeper desk')) ≡ (seated {S = S} (Keeper (after_eviction p uses d)))) × IsDesk (after_eviction p uses d)) one
-                    (uses, is, few, ap (λ (d : Desk). (seated {S = S} (Keeper d))) (sym is_missed), subst IsDesk (sym is_missed) after.fits),
+                (uses, is, few, ap (λ (d : Desk). (seated {S = S} (Keeper d))) (sym is_missed), subst IsDesk (sym is_missed) after.fits),
           )
 
   -- a load shows that what the keeper knows fits
   pub watch_allowed : Allows (Holds {S = S} count) slots id (seated {S = S} (Keeper desk)) p (λ n. n) (Watches (step slots p 0 0 none) (seated {S = S} (Keeper desk)))
   watch_allowed s holds sized at fits =
       let kept : IsKept count id desk s.words s.views = as_keeper count s id desk holds at in
-      let after = stays s kept desk kept.fits refl in
-      (
+      let after = stays s kept desk kept.fits refl in (
         Keeper desk,
         keeps,
         tt,

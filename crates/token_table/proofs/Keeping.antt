@@ -31,6 +31,7 @@ words_after count epochs epochs' words views id v w p word are many within at he
         let sum = total-set (uses_of p) views id v w at in
         let read : get_or (set words p word) p 0 ≡ word = get_or-set_same words p word 0 (omega arith) in
         rw e (omega arith)
+
     apart : q ≢ p → get_or (set words p word) q 0 ≡ get_or epochs' q 0 * 4294967296 + total (uses_of q) (set views id w)
     apart other =
         let sum = total-set (uses_of q) views id v w at in

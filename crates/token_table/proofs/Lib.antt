@@ -10,3 +10,4 @@ pub mod Seated
 pub mod Openings
 pub mod Rows
 pub mod Plain
+pub mod Uses

@@ -16,8 +16,10 @@ starts_pins S patches base epochs words are whole = starts S epochs words small 
   where
     small : (p : ℕ) → get_or epochs p 0 ≤ 1
     small p = rw (are.each p) (one_if-le (has base p))
+
     many : length words ≡ length epochs
     many = ap length whole ∙ length-map epochs (λ (epoch : ℕ). epoch * 4294967297)
+
     opened_words : AreOpened epochs words
     opened_words p within =
         let read : get_or words p 0 ≡ get_or epochs p 0 * 4294967297 = ap (λ (ws : List ℕ). get_or ws p 0) whole ∙ get_or-map (λ (epoch : ℕ). epoch * 4294967297) epochs p 0 0 within in

@@ -62,10 +62,19 @@ module _ (S : Type 0) (count id : ℕ) (desk : Desk) where
       let kept = as_keeper count s id desk holds at in
       let f = kept.fits in
       let fits : IsDesk (with_made desk) = record {
-        last = f.last; pins = f.pins; pinned = f.pinned; made = (omega arith); guest = f.guest; ended = f.ended; misses = f.misses;
-      } in
-      (id, with_made desk, desk_splits count id desk s.words s.views kept (with_made desk) (newcomer (desk.made + 1)) fits refl (holder-newcomer desk.epochs (desk.made + 1))
-          (omega arith) (λ n. let more = made_more desk.made n in omega arith) (λ p. omega arith))
+        last = f.last;
+        pins = f.pins;
+        pinned = f.pinned;
+        made = (omega arith);
+        guest = f.guest;
+        ended = f.ended;
+        misses = f.misses;
+      } in (
+        id,
+        with_made desk,
+        desk_splits count id desk s.words s.views kept (with_made desk) (newcomer (desk.made + 1)) fits refl (holder-newcomer desk.epochs (desk.made + 1))
+            (omega arith) (λ n. let more = made_more desk.made n in omega arith) (λ p. omega arith),
+      )
 
   -- a visiting session leaves
   pub leave_allowed : (own : Own) → Splits (Holds {S = S} count) id (Keeper (with_guest (Some own) desk)) (alone (Keeper (with_guest (Some own) desk))) (leaving (Keeper (with_guest (Some own) desk)))
@@ -73,10 +82,19 @@ module _ (S : Type 0) (count id : ℕ) (desk : Desk) where
       let kept = as_keeper count s id (with_guest (Some own) desk) holds at in
       let f = kept.fits in
       let fits : IsDesk (with_guest None desk) = record {
-        last = f.last; pins = f.pins; pinned = f.pinned; made = f.made; guest = tt; ended = f.ended; misses = f.misses;
-      } in
-      (id, with_guest None desk, desk_splits count id (with_guest (Some own) desk) s.words s.views kept (with_guest None desk) own fits refl f.guest
-          (omega arith) (λ n. omega arith) (λ p. omega arith))
+        last = f.last;
+        pins = f.pins;
+        pinned = f.pinned;
+        made = f.made;
+        guest = tt;
+        ended = f.ended;
+        misses = f.misses;
+      } in (
+        id,
+        with_guest None desk,
+        desk_splits count id (with_guest (Some own) desk) s.words s.views kept (with_guest None desk) own fits refl f.guest
+            (omega arith) (λ n. omega arith) (λ p. omega arith),
+      )
 
   guest_of : (s : State S View) (other : ℕ) (own : Own) (view : View) → IsKept count id desk s.words s.views → (other ≡ id → ⊥)
       → get_elem? (set s.views id view) other ≡ some (Session own) → IsHolder desk.epochs own
@@ -96,10 +114,19 @@ module _ (S : Type 0) (count id : ℕ) (desk : Desk) where
         | inr earlier ↦ kept.holders other own earlier.1
       ] in
       let fits : IsDesk (with_guest (Some own) desk) = record {
-        last = f.last; pins = f.pins; pinned = f.pinned; made = f.made; guest = holds'; ended = f.ended; misses = f.misses;
-      } in
-      (id, with_guest (Some own) desk, desk_joins count id before s.words s.views kept (with_guest (Some own) desk) own other apart there fits refl refl
-          (omega arith) (λ n. omega arith) (λ p. omega arith))
+        last = f.last;
+        pins = f.pins;
+        pinned = f.pinned;
+        made = f.made;
+        guest = holds';
+        ended = f.ended;
+        misses = f.misses;
+      } in (
+        id,
+        with_guest (Some own) desk,
+        desk_joins count id before s.words s.views kept (with_guest (Some own) desk) own other apart there fits refl refl
+            (omega arith) (λ n. omega arith) (λ p. omega arith),
+      )
 
   -- a session ends
   pub end_allowed : (other : ℕ) (own : Own) → ((p : ℕ) → has own.uses p ≡ false) → Joins (Holds {S = S} count) id (Keeper desk) other (Session own) (ending (Keeper desk) (Session own)) Spent
@@ -116,11 +143,14 @@ module _ (S : Type 0) (count id : ℕ) (desk : Desk) where
         guest = f.guest;
         ended = All-push (λ (session : Ended). AreTries desk.epochs session.tries) desk.ended last f.ended holds'.tries;
         misses = f.misses;
-      } in
-      (id, with_ended own desk, desk_joins count id desk s.words s.views kept (with_ended own desk) own other apart there fits refl refl
-          (omega (arith, length-append desk.ended (last ∷ [])))
-          (λ n. let pushed = total-push (λ (session : Ended). one_if (nat_eq n session.number)) desk.ended last in omega arith)
-          (λ p. let none : own_uses p own ≡ 0 = ap one_if (unused p) in omega arith))
+      } in (
+        id,
+        with_ended own desk,
+        desk_joins count id desk s.words s.views kept (with_ended own desk) own other apart there fits refl refl
+            (omega (arith, length-append desk.ended (last ∷ [])))
+            (λ n. let pushed = total-push (λ (session : Ended). one_if (nat_eq n session.number)) desk.ended last in omega arith)
+            (λ p. let none : own_uses p own ≡ 0 = ap one_if (unused p) in omega arith),
+      )
 
 -- the words at the making: each patch that is there is pinned
 abbrev pub AreOpened : List ℕ → List ℕ → Type 0
@@ -129,29 +159,34 @@ AreOpened epochs words = (p : ℕ) → p < length epochs → get_or words p 0 �
 pub starts : (S : Type 0) (epochs words : List ℕ) → ((p : ℕ) → get_or epochs p 0 ≤ 1) → length words ≡ length epochs → AreOpened epochs words
     → Holds {S = S} (length epochs) (opening words [] (Keeper (opened epochs)))
 unfolding total
-starts S epochs words small many are = (0, opened epochs, record {
-  sits = refl;
-  only = λ seat other there. first seat other there;
-  fits = record {
-    last = λ p. let least = small p in omega arith;
-    pins = small;
-    pinned = λ p pin. rw pin refl;
-    made = omega arith;
-    guest = tt;
-    ended = All-nil (λ (session : Ended). AreTries epochs session.tries);
-    misses = All-nil (λ (miss : ℕ × ℕ). 1 ≤ miss.1);
-  };
-  holders = λ seat own there. nobody seat own there;
-  many = many;
-  known = refl;
-  word_is = λ p below. let is = are p below in omega arith;
-  allowances = refl;
-  numbers = λ n. let none = none_made n in omega arith;
-})
+starts S epochs words small many are = (
+  0,
+  opened epochs,
+  record {
+    sits = refl;
+    only = λ seat other there. first seat other there;
+    fits = record {
+      last = λ p. let least = small p in omega arith;
+      pins = small;
+      pinned = λ p pin. rw pin refl;
+      made = omega arith;
+      guest = tt;
+      ended = All-nil (λ (session : Ended). AreTries epochs session.tries);
+      misses = All-nil (λ (miss : ℕ × ℕ). 1 ≤ miss.1);
+    };
+    holders = λ seat own there. nobody seat own there;
+    many = many;
+    known = refl;
+    word_is = λ p below. let is = are p below in omega arith;
+    allowances = refl;
+    numbers = λ n. let none = none_made n in omega arith;
+  },
+)
   where
     first : (seat : ℕ) (other : Desk) → get_elem? (Keeper (opened epochs) ∷ []) seat ≡ some (Keeper other) → seat ≡ 0
     first zero other there = refl
     first (suc seat) other there = absurd (cc)
+
     nobody : (seat : ℕ) (own : Own) → get_elem? (Keeper (opened epochs) ∷ []) seat ≡ some (Session own) → IsHolder epochs own
     nobody zero own there = absurd (cc)
     nobody (suc seat) own there = absurd (cc)
@@ -162,8 +197,7 @@ pub closes : (S : Type 0) (count id : ℕ) (desk : Desk) (words : List ℕ) (slo
     → (length words ≡ count) × ((p : ℕ) → p < count → get_or words p 0 ≡ get_or desk.epochs p 0 * 4294967296 + get_or desk.pins p 0)
 closes S count id desk words slots alone all (s, holds, same, sized, homes) =
     let kept : IsKept count id desk s.words s.views = as_keeper count s id desk holds.0 holds.1 in
-    let guest : (p : ℕ) → of_guest (own_uses p) desk.guest ≡ 0 = λ p. ap (of_guest (own_uses p)) alone in
-    (
+    let guest : (p : ℕ) → of_guest (own_uses p) desk.guest ≡ 0 = λ p. ap (of_guest (own_uses p)) alone in (
       sym (ap length same) ∙ kept.many,
       λ p below.
           let is = kept.word_is p below in

@@ -22,9 +22,9 @@ pinned_word : (epoch pins word : ℕ) → pins ≤ 1 → word ≡ epoch * 429496
 pinned_word epoch pins word most is = dite (ℕ_discrete pins 1)
     (λ pin. rw (nat_eq-other word (epoch * 4294967296) (λ e. omega arith), pin) refl)
     (λ other.
-        let here : word ≡ epoch * 4294967296 = omega arith in
-        let unpinned : pins ≡ 0 = omega arith in
-        rw (here, nat_eq-same (epoch * 4294967296), unpinned) refl)
+    let here : word ≡ epoch * 4294967296 = omega arith in
+    let unpinned : pins ≡ 0 = omega arith in
+    rw (here, nat_eq-same (epoch * 4294967296), unpinned) refl)
 
 module _ (desk : Desk) (numbers : List ℕ) (words : List Word) (fits : IsDesk desk) (read : AreRead desk.epochs numbers words)
     (are : (p : ℕ) → p < length desk.epochs → get_or numbers p 0 ≡ get_or desk.epochs p 0 * 4294967296 + get_or desk.pins p 0) where

@@ -10,7 +10,8 @@ use lib.ListN.{get_elem?}
 use Rattle.atomic_table.specs.Seated.{TableId}
 use Rattle.token_words.specs.declared.entries.Word.{Word}
 use Rattle.token_table.specs.Changes.{newcomer}
-use Rattle.token_table.specs.Seats.{SessionSeen}
+use Rattle.token_table.specs.Seats.{SessionSeen, IsIdle, IsSeatOf}
+use Rattle.std.proofs.lemmas.Option.{get_or_from_slice_get}
 use Rattle.token_table.specs.Makings.{AreNewcomers, session_seen}
 use Rattle.token_table.specs.Closings.{AreRead}
 
@@ -51,18 +52,24 @@ read-more epochs numbers words word i within are epoch pin =
       many = omega (arith, length-append words (word ∷ []), length-take (i + 1) epochs);
       epoch_is = λ p below. dite (ℕ_discrete p i)
           (λ same. ap (λ (w : Option Word). option_map_or (λ word. word.epoch) w 0) (slice_get-last words word p (same ∙ sym few))
-              ∙ (epoch ∙ (ap (λ (q : ℕ). get_or epochs q 0) (sym same) ∙ sym (get_or-take (i + 1) epochs p 0 (omega arith)))))
+          ∙ (epoch ∙ (ap (λ (q : ℕ). get_or epochs q 0) (sym same) ∙ sym (get_or-take (i + 1) epochs p 0 (omega arith)))))
           (λ apart.
-              let less : p < i = omega (arith, length-take (i + 1) epochs) in
-              ap (λ (w : Option Word). option_map_or (λ word. word.epoch) w 0) (slice_get-push words word p (omega arith))
-              ∙ (are.epoch_is p (omega (arith, length-take i epochs)) ∙ (get_or-take i epochs p 0 less ∙ sym (get_or-take (i + 1) epochs p 0 (omega arith)))));
+          let less : p < i = omega (arith, length-take (i + 1) epochs) in
+          ap (λ (w : Option Word). option_map_or (λ word. word.epoch) w 0) (slice_get-push words word p (omega arith))
+          ∙ (are.epoch_is p (omega (arith, length-take i epochs)) ∙ (get_or-take i epochs p 0 less ∙ sym (get_or-take (i + 1) epochs p 0 (omega arith)))));
       pin_is = λ p below. dite (ℕ_discrete p i)
           (λ same. ap (λ (w : Option Word). option_map_or (λ word. word.is_pinned) w false) (slice_get-last words word p (same ∙ sym few))
-              ∙ (pin ∙ (ap (λ (q : ℕ). not (nat_eq (get_or numbers q 0) (get_or epochs q 0 * 4294967296))) (sym same)
-              ∙ ap (λ (e : ℕ). not (nat_eq (get_or numbers p 0) (e * 4294967296))) (sym (get_or-take (i + 1) epochs p 0 (omega arith))))))
+          ∙ (pin ∙ (ap (λ (q : ℕ). not (nat_eq (get_or numbers q 0) (get_or epochs q 0 * 4294967296))) (sym same)
+          ∙ ap (λ (e : ℕ). not (nat_eq (get_or numbers p 0) (e * 4294967296))) (sym (get_or-take (i + 1) epochs p 0 (omega arith))))))
           (λ apart.
-              let less : p < i = omega (arith, length-take (i + 1) epochs) in
-              ap (λ (w : Option Word). option_map_or (λ word. word.is_pinned) w false) (slice_get-push words word p (omega arith))
-              ∙ (are.pin_is p (omega (arith, length-take i epochs))
-              ∙ ap (λ (e : ℕ). not (nat_eq (get_or numbers p 0) (e * 4294967296))) (get_or-take i epochs p 0 less ∙ sym (get_or-take (i + 1) epochs p 0 (omega arith)))));
+          let less : p < i = omega (arith, length-take (i + 1) epochs) in
+          ap (λ (w : Option Word). option_map_or (λ word. word.is_pinned) w false) (slice_get-push words word p (omega arith))
+          ∙ (are.pin_is p (omega (arith, length-take i epochs))
+          ∙ ap (λ (e : ℕ). not (nat_eq (get_or numbers p 0) (e * 4294967296))) (get_or-take i epochs p 0 less ∙ sym (get_or-take (i + 1) epochs p 0 (omega arith)))));
     }
+
+-- new sessions use no patch
+pub newcomers_idle : (table : TableId) (made : ℕ) (seats : List SessionSeen) → AreNewcomers table made seats → All (IsIdle table) seats
+newcomers_idle table made seats are k d within =
+    let is : session_seen table (newcomer (k + 1)) ≡ get_or seats k d = sym (get_or_from_slice_get seats k _ d (are.each k (let many = are.many in omega arith))) in
+    subst (IsIdle table) is (record { of = record { here = refl; used = λ p locked. locked }; unused = λ p. refl })

@@ -122,8 +122,7 @@ module _ (S : Type 0) (count id : ℕ) (place table : TableId) (me : Me S View) 
   visit_asks other from you desk own there knows free yours =
       let same : with_guest None desk ≡ desk = no_guest desk free in
       let joins : Joins (Holds {S = S} count) id (Keeper desk) other (Session own) (welcoming (Keeper desk) (Session own)) Spent =
-          subst (λ d. Joins (Holds {S = S} count) id (Keeper d) other (Session own) (welcoming (Keeper d) (Session own)) Spent) same (passages.visit_allowed S count id desk other own) in
-      (
+      subst (λ d. Joins (Holds {S = S} count) id (Keeper d) other (Session own) (welcoming (Keeper d) (Session own)) Spent) same (passages.visit_allowed S count id desk other own) in (
         here,
         there,
         ap (λ m. m.1) yours,

@@ -56,7 +56,7 @@ module _ (epochs : List ℕ) (own : Own) (p : ℕ) (holds : IsHolder epochs own)
     there : has own.locks p ≡ false → (q : ℕ) → has (grown odd p own.locks) q ≡ true → is_odd (get_or epochs q 0) ≡ true
     there free q locked = dite (ℕ_discrete q p)
         (λ same. subst (λ (r : ℕ). is_odd (get_or epochs r 0) ≡ true) (sym same)
-            (is ∙ granted (subst (λ (r : ℕ). has (grown odd p own.locks) r ≡ true) same locked) free))
+        (is ∙ granted (subst (λ (r : ℕ). has (grown odd p own.locks) r ≡ true) same locked) free))
         (λ apart. holds.there q (sym (has-grown_other odd p q own.locks apart) ∙ locked))
 
   unlocked : has own.uses p ≡ false → has own.locks p ≡ false
@@ -110,8 +110,7 @@ module _ (S : Type 0) (count slots id p : ℕ) (own : Own) (within : p < count) 
       let words = words_after count desk.epochs desk.epochs s.words s.views id (Session own) (Session own') p (word + 1) kept.word_is kept.many within at sum stays (λ q apart. refl) in
       let holds = holder-after_try desk.epochs own p (kept.holders id own at) free in
       let after : IsKept count keeper desk (set s.words p (word + 1)) (set s.views id (Session own')) =
-          session_moves count keeper desk s.words s.views kept id own own' (set s.words p (word + 1)) at refl holds (length-set s.words p (word + 1)) words in
-      (
+      session_moves count keeper desk s.words s.views kept id own own' (set s.words p (word + 1)) at refl holds (length-set s.words p (word + 1)) words in (
         Session own',
         keeps,
         tt,
@@ -138,8 +137,7 @@ module _ (S : Type 0) (count slots id p : ℕ) (own : Own) (within : p < count) 
       let words = words_after count desk.epochs desk.epochs s.words s.views id (Session own) (Session own') p (word - 1) kept.word_is kept.many within at sum stays (λ q apart. refl) in
       let holds = holder-after_leave desk.epochs own p (kept.holders id own at) in
       let after : IsKept count keeper desk (set s.words p (word - 1)) (set s.views id (Session own')) =
-          session_moves count keeper desk s.words s.views kept id own own' (set s.words p (word - 1)) at refl holds (length-set s.words p (word - 1)) words in
-      (
+      session_moves count keeper desk s.words s.views kept id own own' (set s.words p (word - 1)) at refl holds (length-set s.words p (word - 1)) words in (
         Session own',
         keeps,
         tt,

@@ -6,3 +6,4 @@ pub mod Tables
 pub mod Makings
 pub mod Closings
 pub mod Places
+pub mod Setups

@@ -34,6 +34,11 @@ pub record IsSeatOf (table : TableId) (seat : SessionSeen) : Type 0 where
   pub here : seat.table ≡ table
   pub used : (p : ℕ) → has seat.own.locks p ≡ true → has seat.own.uses p ≡ true
 
+-- a session's seat at the table that uses no patch
+pub record IsIdle (table : TableId) (seat : SessionSeen) : Type 0 where
+  pub of : IsSeatOf table seat
+  pub unused : (p : ℕ) → has seat.own.uses p ≡ false
+
 -- the keeper's seat has no guest, and keeps the epochs
 pub record IsAtDesk {S : Type 0} (table : TableId) (me : Me S View) (epochs : List ℕ) : Type 0 where
   pub knows : me ≡ seated (Keeper (desk_in me.0))

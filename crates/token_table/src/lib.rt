@@ -11,6 +11,7 @@ mod keeper_words;
 mod knowledge;
 mod making;
 mod members;
+mod naming;
 mod plays;
 mod seats;
 mod shared_words;
@@ -21,6 +22,10 @@ pub use keeper_words::KeeperWords;
 pub use knowledge::{Desk, Ended, Own, View};
 pub use making::Made;
 pub use members::{Member, TierSeat};
+pub use naming::Naming;
 pub use seats::{KeeperSeat, SessionSeat};
 pub use shared_words::SharedWords;
 pub use tables::TokenTable;
+
+#[cfg(test)]
+mod tests;

@@ -46,12 +46,7 @@ fn first_words(alloc: Global, epochs: &[u32]) -> Result<Vec<u64>, NoMemory>
 impl TokenTable {
     /// A table with words for patches 0 to `patches - 1`, and the seats of the keeper and of so many
     /// sessions. The patches of `base` are there and pinned.
-    pub fn new(
-        alloc: Global,
-        patches: u32,
-        base: &[u32],
-        sessions: u32,
-    ) -> Result<Made, NoMemory>
+    pub fn new(alloc: Global, patches: u32, base: &[u32], sessions: u32) -> Result<Made, NoMemory>
         requires patches { 0 < patches }
         requires base { All (λ patch. patch < patches) base.now }
         requires sessions { sessions ≤ 64 }
@@ -99,10 +94,7 @@ impl TokenTable {
         ensures keeper { keeper.new ≡ record keeper.old { desk = with_made keeper.old.desk } }
     {
         SessionSeat {
-            seat: self
-                .table
-                .shared
-                .split_seat::<Making>(&mut keeper.seat),
+            seat: self.table.shared.split_seat::<Making>(&mut keeper.seat),
         }
     }
 }

@@ -1,7 +1,7 @@
 //! The table, and the steps of sessions and of the keeper.
 
 use crate::knowledge::View;
-use crate::plays::{Admission, Eviction, Leave, Try, Visit, Watch, End};
+use crate::plays::{Admission, End, Eviction, Leave, Try, Visit, Watch};
 use crate::seats::{KeeperSeat, SessionSeat};
 use crate::word_rule::WordRule;
 use atomic_table::Table;
@@ -129,7 +129,8 @@ impl TokenTable {
         ensures fits { IsDesk keeper.new.desk }
         ensures evicted { keeper.new
             ≡ record keeper.old {
-              desk = after_eviction patch (uses_found result) keeper.old.desk } }
+              desk = after_eviction patch (uses_found result) keeper.old.desk;
+            } }
     {
         let unused = u64::from(keeper.epochs[patch as usize]) * ONE_EPOCH;
         let found = self.table.shared.compare_exchange::<Eviction>(

@@ -8,9 +8,9 @@ use Rattle.token_table.proofs.shared_words.SharedWordsTokens.withdraw.Goals as g
 pub returns-clause-uses : goal.returns-clause-uses
 returns-clause-uses c =
     subst (λ (s : SessionSeen). SetAt (has c.args.pass.now.own.uses) c.args.patch false (has s.own.uses)) (sym c.withdraw.ensures.left)
-        (leaves c.args.pass.now.own.uses c.args.patch)
+    (leaves c.args.pass.now.own.uses c.args.patch)
 
 pub returns-clause-locks : goal.returns-clause-locks
 returns-clause-locks c =
     subst (λ (s : SessionSeen). Stays (has c.args.pass.now.own.locks) (has s.own.locks)) (sym c.withdraw.ensures.left)
-        (leaves_none c.args.pass.now.own.locks c.args.patch c.requires.refused)
+    (leaves_none c.args.pass.now.own.locks c.args.patch c.requires.refused)

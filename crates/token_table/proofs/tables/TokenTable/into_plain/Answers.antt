@@ -24,12 +24,12 @@ returns c =
     let final = subst (λ v. Final (Seen (Holds count) c.keeper.inside.seat.id v) (slots_items c.close_with-closed.result.words) (slots_items c.close_with-closed.result.slots)) view c.close_with-closed.ensures.values.2 in
     let closed = closes _ count c.keeper.inside.seat.id desk (slots_items c.close_with-closed.result.words) (slots_items c.close_with-closed.result.slots) c.keeper.invariant.alone all final in
     let read : AreRead desk.epochs (slots_items c.close_with-closed.result.words) c.in_ok-words.field-0.items =
-        subst (λ (es : List ℕ). AreRead es (slots_items c.close_with-closed.result.words) c.in_ok-words.field-0.items) (c.as_slice.ensures.value ∙ sym c.keeper.invariant.epochs_are) c.in_ok-words.ensures in
+    subst (λ (es : List ℕ). AreRead es (slots_items c.close_with-closed.result.words) c.in_ok-words.field-0.items) (c.as_slice.ensures.value ∙ sym c.keeper.invariant.epochs_are) c.in_ok-words.ensures in
     let tables : c.keeper.inside.seat.table_id.words ≡ c.self.inside.table.shared.table_id.words =
-        ap (λ (t : TableId). t.words) (ap (λ (s : KeeperSeen). s.table) c.keeper.view_is ∙ (c.requires.table ∙ sym c.self.view_is)) in
+    ap (λ (t : TableId). t.words) (ap (λ (s : KeeperSeen). s.table) c.keeper.view_is ∙ (c.requires.table ∙ sym c.self.view_is)) in
     let known : length desk.epochs ≡ length c.keeper.inside.epochs.items = ap length c.keeper.invariant.epochs_are in
     let many = c.keeper.invariant.many in
     let words = c.self.invariant.same in
     subst (λ (d : Desk). IfOk c.with_words.result (HasDesk d)) same
-        (plain_result desk (slots_items c.close_with-closed.result.words) c.in_ok-words.field-0.items c.keeper.invariant.fits read (λ p below. closed.1 p (omega arith)) c.with_words.result
-            (subst (λ (ws : List Word). IfOk c.with_words.result (HasWords ws)) c.as_slice-2.ensures.value c.with_words.ensures))
+    (plain_result desk (slots_items c.close_with-closed.result.words) c.in_ok-words.field-0.items c.keeper.invariant.fits read (λ p below. closed.1 p (omega arith)) c.with_words.result
+    (subst (λ (ws : List Word). IfOk c.with_words.result (HasWords ws)) c.as_slice-2.ensures.value c.with_words.ensures))

@@ -11,10 +11,10 @@ use Rattle.token_table.proofs.tables.TokenTable.try_lock.Goals as goal
 pub fetch_add-word-requires : goal.fetch_add-word-requires
 fetch_add-word-requires c =
     try_asks _ _ c.seat.inside.seat.id c.args.patch _ _ _ c.self.invariant
-        (ap (λ (s : SessionSeen). s.table) c.seat.view_is ∙ (c.requires.seat.here ∙ sym c.self.view_is))
-        (subst (λ (t : TableId). c.args.patch < t.words) (sym c.self.view_is) c.requires.patch)
-        (own_in c.seat.inside.seat.me.0) c.seat.invariant
-        (ap (λ (s : SessionSeen). has s.own.uses c.args.patch) c.seat.view_is ∙ c.requires.free)
+    (ap (λ (s : SessionSeen). s.table) c.seat.view_is ∙ (c.requires.seat.here ∙ sym c.self.view_is))
+    (subst (λ (t : TableId). c.args.patch < t.words) (sym c.self.view_is) c.requires.patch)
+    (own_in c.seat.inside.seat.me.0) c.seat.invariant
+    (ap (λ (s : SessionSeen). has s.own.uses c.args.patch) c.seat.view_is ∙ c.requires.free)
 
 pub invariant_of-seat : goal.invariant_of-seat
 invariant_of-seat c =
@@ -23,7 +23,7 @@ invariant_of-seat c =
 pub returns-clause-seat : goal.returns-clause-seat
 returns-clause-seat c =
     let knows : c.seat.inside.seat.me.0 ≡ Session c.args.seat.now.own =
-        ap (λ m. m.0) c.seat.invariant ∙ ap (λ (s : SessionSeen). Session s.own) c.seat.view_is in
+    ap (λ m. m.0) c.seat.invariant ∙ ap (λ (s : SessionSeen). Session s.own) c.seat.view_is in
     let own : Own = after_try c.args.patch (c.fetch_add-word.result / 4294967296) c.args.seat.now.own in
     seat_after _ c.args.self.now _ c.args.seat.now _ own (seat-after_try c.args.self.now c.args.seat.now c.args.patch (c.fetch_add-word.result / 4294967296) c.requires.seat)
-        (c.fetch_add-word.ensures.0 ∙ ap (λ (s : SessionSeen). s.table) c.seat.view_is) (c.fetch_add-word.ensures.2 c.args.seat.now.own knows)
+    (c.fetch_add-word.ensures.0 ∙ ap (λ (s : SessionSeen). s.table) c.seat.view_is) (c.fetch_add-word.ensures.2 c.args.seat.now.own knows)
