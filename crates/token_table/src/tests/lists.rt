@@ -17,7 +17,7 @@ use token_words::{Evict, Keeper, LAST_EPOCH, PlainPass, PlainTokens, Tokens};
 
 /// The answers of eight calls: a refused try that is withdrawn, an admission, a granted try, two
 /// evictions beside the lock, the lock given back, and an eviction.
-#[derive(PartialEq, Eq, Debug)]
+#[derive(Clone, Copy, PartialEq, Eq, Debug)]
 struct Answers {
     refused: u32,
     granted: u32,
