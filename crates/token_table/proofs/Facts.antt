@@ -1,15 +1,15 @@
 -- What the rule says of the words, once a seat's view is known.
-use Rattle.std.proofs.Common.{◌≡◌, ◌≢◌, ℕ, zero, suc, ◌+◌, ◌*◌, ◌/◌, ◌-◌, ◌<◌, ◌≤◌, Bool, true, false, List, [], ◌∷◌, length, get_or, set, refl, sym, ap, subst, ◌∙◌, inl, inr, arith, Option, Some, None}
-use mathlib.Core.Option.{some, some-injective}
+use Rattle.std.proofs.Common.{◌≡◌, ℕ, ◌≤◌, Bool, true, false, List, refl, sym, ap, subst, ◌∙◌, arith, Option, Some, None}
+use mathlib.Core.Option.{some}
 use lib.ListN.{get_elem?}
 use Rattle.atomic_table.specs.Table.{State}
 use Rattle.token_table.specs.declared.knowledge.Own.{Own}
 use Rattle.token_table.specs.declared.knowledge.Desk.{Desk}
 use Rattle.token_table.specs.declared.knowledge.View.{View}
 use Rattle.token_table.specs.declared.knowledge.View.TheVariants.{Spent, Session, Keeper}
-use Rattle.token_table.specs.Known.{has, IsDesk, IsHolder, total, uses_of, own_uses, of_guest, one_if, allowance, desk_allowance}
+use Rattle.token_table.specs.Known.{has, total, uses_of, own_uses, of_guest, allowance, desk_allowance}
 use Rattle.token_table.specs.WordRule.{IsKept, Holds}
-use Rattle.token_table.proofs.Totals.{total-le, total-at, total-others, IsBelow}
+use Rattle.token_table.proofs.Totals.{total-le, total-at, total-others}
 use Rattle.token_table.proofs.Sets.{one_if-le}
 
 -- a seat that knows what a keeper knows is the keeper's

@@ -1,7 +1,6 @@
 -- The steps of the keeper keep the rule.
-use Rattle.std.proofs.Common.{◌≡◌, ◌≢◌, ℕ, zero, suc, ◌+◌, ◌*◌, ◌/◌, ◌%◌, ◌-◌, ◌<◌, ◌≤◌, Bool, true, false, List, [], ◌∷◌, ◌++◌, length, get_or, set, refl, sym, ap, subst, ◌∙◌, inl, inr, arith, Option, Some, None, eqb, eq-eqb, ne_eqb}
+use Rattle.std.proofs.Common.{◌≡◌, ◌≢◌, ℕ, ◌+◌, ◌*◌, ◌%◌, ◌<◌, ◌≤◌, Bool, true, false, List, [], ◌∷◌, ◌++◌, length, get_or, set, refl, sym, ap, subst, ◌∙◌, arith, Option, Some, None, eqb, eq-eqb, ne_eqb}
 use Rattle.std.specs.Prelude.{◌==◌}
-use Rattle.std.specs.List.{All}
 use Rattle.std.proofs.Math.Nat.{mod-eq_of_lt}
 use Rattle.std.proofs.lemmas.List.{length-set, get_or-set_same, get_or-set_other}
 use Rattle.std.proofs.lemmas.List.Elements.{All-push, All-weaker}
@@ -11,13 +10,13 @@ use mathlib.Core.Option.{some, none}
 use native.Mathlib.Decide.{ℕ_discrete}
 use lib.ListN.{get_elem?}
 use prog.Atomic.{either}
-use Rattle.atomic_table.specs.Table.{State, Me, step, Allows, keeps, Act, Valid, stepped, carried_after}
+use Rattle.atomic_table.specs.Table.{State, step, Allows, keeps, Act, Valid, stepped, carried_after}
 use Rattle.file_model.specs.Tries.{is_odd}
 use Rattle.token_table.specs.declared.knowledge.Own.{Own}
 use Rattle.token_table.specs.declared.knowledge.Ended.{Ended}
 use Rattle.token_table.specs.declared.knowledge.Desk.{Desk}
 use Rattle.token_table.specs.declared.knowledge.View.{View}
-use Rattle.token_table.specs.declared.knowledge.View.TheVariants.{Spent, Session, Keeper}
+use Rattle.token_table.specs.declared.knowledge.View.TheVariants.{Session, Keeper}
 use Rattle.token_table.specs.Known.{has, AreTries, IsHolder, IsGuest, IsDesk, total, uses_of, own_uses, of_guest, one_if, desk_allowance, desk_numbers}
 use Rattle.token_table.specs.WordRule.{IsKept, Holds}
 use Rattle.token_table.specs.Changes.{with_risen, after_eviction, Admits, Evicts, Watches, seated}

@@ -1,18 +1,18 @@
 -- What keeps the rule.
-use Rattle.std.proofs.Common.{◌≡◌, ◌≢◌, ℕ, zero, suc, ◌+◌, ◌*◌, ◌-◌, ◌<◌, ◌≤◌, List, [], ◌∷◌, ◌++◌, length, get_or, set, refl, sym, ap, subst, ◌∙◌, inl, inr, ⊎_elim, arith}
-use Rattle.std.proofs.lemmas.List.{length-set, get_or-set_same, get_or-set_other}
+use Rattle.std.proofs.Common.{◌≡◌, ◌≢◌, ℕ, zero, suc, ◌+◌, ◌*◌, ◌<◌, List, [], ◌∷◌, ◌++◌, length, get_or, set, refl, sym, ap, subst, ◌∙◌, inl, inr, arith}
+use Rattle.std.proofs.lemmas.List.{get_or-set_same, get_or-set_other}
 use mathlib.Core.Logic.{dite}
-use mathlib.Core.Option.{some, some-injective, some-ne-none}
+use mathlib.Core.Option.{some, some-ne-none}
 use native.Mathlib.Decide.{ℕ_discrete}
 use lib.ListN.{get_elem?}
-use Rattle.atomic_table.proofs.Lists.{at_set, at_snoc, set_here, set_else, at_longer}
+use Rattle.atomic_table.proofs.Lists.{at_set, at_snoc, set_else, at_longer}
 use Rattle.token_table.specs.declared.knowledge.Own.{Own}
 use Rattle.token_table.specs.declared.knowledge.Desk.{Desk}
 use Rattle.token_table.specs.declared.knowledge.View.{View}
 use Rattle.token_table.specs.declared.knowledge.View.TheVariants.{Spent, Session, Keeper}
-use Rattle.token_table.specs.Known.{IsDesk, IsHolder, total, uses_of, allowance, numbers_of, is_made, one_if, desk_allowance, desk_numbers, own_uses, of_guest}
+use Rattle.token_table.specs.Known.{IsDesk, IsHolder, total, uses_of, allowance, numbers_of, is_made, one_if, desk_allowance, desk_numbers, own_uses}
 use Rattle.token_table.specs.WordRule.{IsKept}
-use Rattle.token_table.proofs.Totals.{total-set, total-push, total-at}
+use Rattle.token_table.proofs.Totals.{total-set, total-push}
 
 -- the word of each patch is its epoch times 2^32 and its uses
 abbrev AreWords : ℕ → List ℕ → List ℕ → List View → Type 0

@@ -1,20 +1,18 @@
 -- How seats are made, visit, end and are gathered.
-use Rattle.std.proofs.Common.{◌≡◌, ◌≢◌, ℕ, zero, suc, ◌+◌, ◌*◌, ◌-◌, ◌<◌, ◌≤◌, Bool, true, false, ◌&&◌, List, [], ◌∷◌, ◌++◌, length, get_or, set, refl, sym, ap, subst, ◌∙◌, inl, inr, arith, Option, Some, None, length-append}
-use Rattle.std.specs.Prelude.{nat_eq, nat_le}
-use Rattle.std.specs.List.{All}
+use Rattle.std.proofs.Common.{◌≡◌, ℕ, zero, suc, ◌+◌, ◌*◌, ◌<◌, ◌≤◌, true, false, List, [], ◌∷◌, length, get_or, set, refl, sym, ap, ◌∙◌, inl, inr, arith, Some, None, length-append}
+use Rattle.std.specs.Prelude.{nat_eq}
 use Rattle.std.proofs.lemmas.List.Elements.{All-nil, All-push}
 use Rattle.std.proofs.lemmas.Bool.Decides.{eqb_tells, leb_tells}
 use mathlib.Core.Option.{some}
 use lib.ListN.{get_elem?}
 use Rattle.atomic_table.proofs.Lists.{at_set}
 use Rattle.atomic_table.specs.Table.{State, Splits, Joins, opening, Final, Seen}
-use Rattle.file_model.specs.Tries.{is_odd}
 use Rattle.token_table.specs.declared.knowledge.Own.{Own}
 use Rattle.token_table.specs.declared.knowledge.Ended.{Ended}
 use Rattle.token_table.specs.declared.knowledge.Desk.{Desk}
 use Rattle.token_table.specs.declared.knowledge.View.{View}
 use Rattle.token_table.specs.declared.knowledge.View.TheVariants.{Spent, Session, Keeper}
-use Rattle.token_table.specs.Known.{has, AreTries, IsHolder, IsDesk, total, uses_of, own_uses, one_if, allowance, desk_allowance, numbers_of, is_made, of_guest}
+use Rattle.token_table.specs.Known.{has, AreTries, IsHolder, IsDesk, total, own_uses, one_if, desk_allowance, is_made, of_guest}
 use Rattle.token_table.specs.WordRule.{IsKept, Holds, opened}
 use Rattle.token_table.specs.Changes.{newcomer, with_made, with_guest, with_ended, making, made_next, welcoming, ending, alone, leaving}
 use Rattle.token_table.proofs.Totals.{total-push}

@@ -1,20 +1,18 @@
 -- The plain words that a table leaves.
-use Rattle.std.proofs.Common.{◌≡◌, ◌≢◌, ℕ, ◌+◌, ◌*◌, ◌<◌, ◌≤◌, Bool, true, false, not, List, [], ◌∷◌, length, get_or, refl, sym, ap, subst, ◌∙◌, inl, inr, arith, Option, Some, None, Result, Ok, Err, nat_eq, IfOk}
+use Rattle.std.proofs.Common.{◌≡◌, ℕ, ◌+◌, ◌*◌, ◌<◌, ◌≤◌, true, false, not, List, length, get_or, refl, sym, ap, ◌∙◌, arith, Option, None, Result, Ok, Err, nat_eq, IfOk}
 use Rattle.std.specs.List.{slice_get}
 use Rattle.std.specs.Option.{option_map_or}
 use Rattle.std.proofs.Math.ListN.{get_or-eq_default}
 use Rattle.std.proofs.lemmas.Option.{slice_get_past}
-use Rattle.std.proofs.lemmas.Bool.Decides.{eqb_tells}
 use mathlib.Core.Logic.{dite}
 use native.Mathlib.Decide.{ℕ_discrete, dec_le}
 use Rattle.file_model.specs.Tries.{is_odd}
 use Rattle.token_words.specs.declared.entries.Word.{Word}
 use Rattle.token_words.specs.declared.plain_words.PlainTokens.{PlainTokens}
-use Rattle.token_words.specs.PlainTokens.{HasWords, epoch_of, is_pinned}
+use Rattle.token_words.specs.PlainTokens.{HasWords}
 use Rattle.token_table.specs.declared.knowledge.Desk.{Desk}
 use Rattle.token_table.specs.Known.{IsDesk}
 use Rattle.token_table.specs.Closings.{HasDesk, AreRead}
-use Rattle.token_table.specs.Seats as seats
 use Rattle.token_table.proofs.Sets.{nat_eq-same, nat_eq-other}
 
 -- a word is more than its epoch's exactly where it has its pin

@@ -1,8 +1,8 @@
 -- Lists that grow at their end.
-use Rattle.std.proofs.Common.{◌≡◌, ◌≢◌, ℕ, zero, suc, ◌+◌, ◌*◌, ◌<◌, ◌≤◌, Bool, true, false, not, List, [], ◌∷◌, ◌++◌, length, get_or, take, map, set, refl, sym, ap, subst, ◌∙◌, arith, Option, Some, None, nat_eq, length-append}
+use Rattle.std.proofs.Common.{◌≡◌, ℕ, zero, suc, ◌+◌, ◌*◌, ◌<◌, false, not, List, [], ◌∷◌, ◌++◌, length, get_or, take, refl, sym, ap, subst, ◌∙◌, arith, Option, Some, nat_eq, length-append}
 use Rattle.std.specs.List.{slice_get, All}
 use Rattle.std.specs.Option.{option_map_or}
-use Rattle.std.proofs.lemmas.List.{length-take, get_or-take, get_or-map}
+use Rattle.std.proofs.lemmas.List.{length-take, get_or-take}
 use mathlib.Core.Logic.{dite}
 use mathlib.Core.Option.{some, some-injective, some-ne-none}
 use native.Mathlib.Decide.{ℕ_discrete}
@@ -10,7 +10,7 @@ use lib.ListN.{get_elem?}
 use Rattle.atomic_table.specs.Seated.{TableId}
 use Rattle.token_words.specs.declared.entries.Word.{Word}
 use Rattle.token_table.specs.Changes.{newcomer}
-use Rattle.token_table.specs.Seats.{SessionSeen, IsIdle, IsSeatOf}
+use Rattle.token_table.specs.Seats.{SessionSeen, IsIdle}
 use Rattle.std.proofs.lemmas.Option.{get_or_from_slice_get}
 use Rattle.token_table.specs.Makings.{AreNewcomers, session_seen}
 use Rattle.token_table.specs.Closings.{AreRead}

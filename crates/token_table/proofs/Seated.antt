@@ -1,13 +1,12 @@
 -- What each step asks of a seat, and what the seat is afterwards.
 use Rattle.std.proofs.Common.{◌≡◌, ◌≢◌, ℕ, ◌+◌, ◌*◌, ◌%◌, ◌<◌, Bool, true, false, List, [], ◌∷◌, ◌++◌, length, get_or, refl, sym, ap, subst, ◌∙◌, arith, Option, Some, None}
 use Rattle.std.specs.Prelude.{◌==◌}
-use Rattle.std.specs.List.{All}
 use mathlib.Core.Logic.{dite}
 use mathlib.Core.Option.{none}
 use native.Mathlib.Decide.{ℕ_discrete}
 use prog.Atomic.{either}
 use Rattle.atomic_table.specs.Seated.{TableId}
-use Rattle.atomic_table.specs.Table.{State, Me, step, Allows, Splits, Joins}
+use Rattle.atomic_table.specs.Table.{Me, step, Allows, Splits, Joins}
 use Rattle.file_model.specs.Tries.{is_odd}
 use Rattle.token_table.specs.declared.knowledge.Own.{Own}
 use Rattle.token_table.specs.declared.knowledge.Ended.{Ended}
@@ -17,7 +16,7 @@ use Rattle.token_table.specs.declared.knowledge.View.TheVariants.{Spent, Session
 use Rattle.token_table.specs.Known.{has, without, IsDesk, AreTries}
 use Rattle.token_table.specs.WordRule.{Holds}
 use Rattle.token_table.specs.Changes.{seated, after_try, after_leave, with_guest, with_ended, Tries, Leaves, Admits, Evicts, Watches, welcoming, ending, alone, leaving, making, made_next}
-use Rattle.token_table.specs.Seats.{SessionSeen, KeeperSeen, own_in, desk_in, IsSeatOf, IsAtDesk}
+use Rattle.token_table.specs.Seats.{SessionSeen, own_in, desk_in, IsSeatOf, IsAtDesk}
 use Rattle.token_table.specs.Tables.{IsTable}
 use Rattle.token_table.proofs.Sets.{has-with, has-with_other, has-without, has-without_other}
 use Rattle.token_table.proofs.SessionSteps as session

@@ -1,18 +1,15 @@
 -- The steps of a session keep the rule.
-use Rattle.std.proofs.Common.{◌≡◌, ◌≢◌, ℕ, zero, suc, ◌+◌, ◌*◌, ◌/◌, ◌%◌, ◌-◌, ◌<◌, ◌≤◌, Bool, true, false, List, [], ◌∷◌, ◌++◌, length, get_or, set, refl, sym, ap, subst, ◌∙◌, inl, inr, arith}
+use Rattle.std.proofs.Common.{◌≡◌, ◌≢◌, ℕ, ◌+◌, ◌*◌, ◌/◌, ◌%◌, ◌-◌, ◌<◌, ◌≤◌, Bool, true, false, List, ◌∷◌, get_or, set, refl, sym, ap, subst, ◌∙◌, arith}
 use Rattle.std.proofs.Math.Nat.{mod-eq_of_lt, add-mod_right}
 use Rattle.std.proofs.lemmas.Nat.{div-mul-add}
 use Rattle.std.proofs.lemmas.List.{length-set}
 use mathlib.Core.Logic.{dite}
-use mathlib.Core.Option.{some, none}
+use mathlib.Core.Option.{none}
 use native.Mathlib.Decide.{ℕ_discrete}
-use lib.ListN.{get_elem?}
-use Rattle.atomic_table.specs.Table.{State, Me, step, Allows, keeps, stepped}
+use Rattle.atomic_table.specs.Table.{step, Allows, keeps}
 use Rattle.file_model.specs.Tries.{is_odd}
 use Rattle.token_table.specs.declared.knowledge.Own.{Own}
-use Rattle.token_table.specs.declared.knowledge.Desk.{Desk}
-use Rattle.token_table.specs.declared.knowledge.View.{View}
-use Rattle.token_table.specs.declared.knowledge.View.TheVariants.{Spent, Session, Keeper}
+use Rattle.token_table.specs.declared.knowledge.View.TheVariants.{Session}
 use Rattle.token_table.specs.Known.{has, without, IsHolder, total, uses_of, own_uses, one_if}
 use Rattle.token_table.specs.WordRule.{IsKept, Holds}
 use Rattle.token_table.specs.Changes.{after_try, after_leave, Tries, Leaves, seated}

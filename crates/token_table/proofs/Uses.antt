@@ -1,5 +1,5 @@
 -- What a session uses after a step.
-use Rattle.std.proofs.Common.{◌≡◌, ◌≢◌, ℕ, Bool, true, false, List, [], ◌∷◌, refl, sym, ap, subst, ◌∙◌}
+use Rattle.std.proofs.Common.{◌≡◌, ℕ, Bool, true, false, ◌∷◌, refl, ap, ◌∙◌}
 use Rattle.std.proofs.Common.{◌+◌, length, get_or, nat_eq}
 use Rattle.std.proofs.lemmas.List.{length-set}
 use Rattle.token_table.specs.declared.knowledge.Desk.{Desk}
@@ -10,7 +10,7 @@ use Rattle.token_table.specs.Known.{has, without}
 use Rattle.token_table.specs.Changes.{after_try, after_leave, after_eviction}
 use Rattle.atomic_table.specs.Seated.{TableId}
 use Rattle.token_table.specs.Seats.{SessionSeen, IsSeatOf, IsIdle}
-use Rattle.token_table.proofs.Sets.{has-with, has-with_other, has-without, has-without_other}
+use Rattle.token_table.proofs.Sets.{has-with_other, has-without, has-without_other}
 
 -- a use that begins and ends leaves no use
 unused_again : (own : Own) (p epoch : ℕ) → ((q : ℕ) → has own.uses q ≡ false) → (q : ℕ) → has (after_leave p (after_try p epoch own)).uses q ≡ false

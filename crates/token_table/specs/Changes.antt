@@ -1,9 +1,8 @@
 -- How a step changes what its seat knows.
-use Rattle.std.specs.Prelude.{◌≡◌, ℕ, ◌+◌, ◌*◌, ◌/◌, ◌≤◌, List, [], ◌∷◌, ◌++◌, slice_index, slice_set, Option, Some, None, if◌then◌else◌, nat_eq}
+use Rattle.std.specs.Prelude.{◌≡◌, ℕ, ◌+◌, ◌*◌, ◌/◌, ◌≤◌, [], ◌∷◌, ◌++◌, slice_index, slice_set, Option, Some, None, if◌then◌else◌, nat_eq}
 use Rattle.atomic_table.specs.Table.{Me, Step}
 use Rattle.file_model.specs.Tries.{is_odd}
 use Rattle.token_table.specs.declared.knowledge.Own.{Own}
-use Rattle.token_table.specs.declared.knowledge.Ended.{Ended}
 use Rattle.token_table.specs.declared.knowledge.Desk.{Desk}
 use Rattle.token_table.specs.declared.knowledge.View.{View}
 use Rattle.token_table.specs.declared.knowledge.View.TheVariants.{Spent, Session, Keeper}

@@ -1,5 +1,5 @@
 -- What plain words are after a table.
-use Rattle.std.specs.Prelude.{◌≡◌, ◌≢◌, ℕ, ◌*◌, ◌<◌, Bool, false, not, List, length, slice_get, slice_index, nat_eq}
+use Rattle.std.specs.Prelude.{◌≡◌, ℕ, ◌*◌, ◌<◌, false, not, List, length, slice_get, slice_index, nat_eq}
 use Rattle.std.specs.Option.{option_map_or}
 use Rattle.token_words.specs.declared.entries.Word.{Word}
 use Rattle.token_words.specs.declared.plain_words.PlainTokens.{PlainTokens}

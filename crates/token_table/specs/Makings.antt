@@ -1,5 +1,5 @@
 -- What a new table is.
-use Rattle.std.specs.Prelude.{◌≡◌, ℕ, ◌+◌, ◌<◌, List, length, Some, slice_get, slice_index, nat_eq, vec_len}
+use Rattle.std.specs.Prelude.{◌≡◌, ℕ, ◌+◌, ◌<◌, List, length, Some, slice_get, slice_index}
 use Rattle.atomic_table.specs.Seated.{TableId}
 use Rattle.token_table.specs.declared.knowledge.Own.{Own}
 use Rattle.token_table.specs.declared.making.Made.{Made}

@@ -5,7 +5,7 @@ use Rattle.atomic_table.specs.Seated.{TableId}
 use Rattle.token_table.specs.declared.knowledge.Own.{Own}
 use Rattle.token_table.specs.declared.knowledge.Desk.{Desk}
 use Rattle.token_table.specs.declared.knowledge.View.{View}
-use Rattle.token_table.specs.declared.knowledge.View.TheVariants.{Spent, Session, Keeper}
+use Rattle.token_table.specs.declared.knowledge.View.TheVariants.{Session, Keeper}
 use Rattle.token_table.specs.Known.{has, IsDesk}
 use Rattle.token_table.specs.WordRule.{opened}
 use Rattle.token_table.specs.Changes.{newcomer, seated}

@@ -1,5 +1,4 @@
-use Rattle.std.proofs.Common.{◌≡◌, ◌+◌, ◌*◌, take, ◌<◌, not, nat_eq, length, get_or, sym, ap, subst, ◌∙◌, rules, refl, arith}
-use Rattle.std.proofs.lemmas.Grind.{get_or_default_zero}
+use Rattle.std.proofs.Common.{◌≡◌, ◌+◌, take, get_or, sym, subst, refl, arith}
 use Rattle.std.specs.Mem.Slots.{slots_items}
 use Rattle.token_table.specs.Closings.{AreRead}
 use Rattle.token_table.proofs.Rows.{read-more, get_or-elem}

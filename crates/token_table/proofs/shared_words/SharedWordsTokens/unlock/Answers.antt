@@ -1,4 +1,4 @@
-use Rattle.std.proofs.Common.{◌≡◌, ℕ, false, sym, ap, subst}
+use Rattle.std.proofs.Common.{false, sym, subst}
 use Rattle.token_words.specs.Changes.{SetAt}
 use Rattle.token_table.specs.Known.{has}
 use Rattle.token_table.specs.Seats.{SessionSeen}

@@ -1,4 +1,4 @@
-use Rattle.std.proofs.Common.{◌≡◌, ◌<◌, false, length, get_or, sym, ap, subst, ◌∙◌, rules, refl, arith}
+use Rattle.std.proofs.Common.{◌≡◌, ◌<◌, length, get_or, sym, ap, subst, ◌∙◌}
 use Rattle.file_model.specs.Tries.{is_odd}
 use Rattle.token_table.specs.Seats.{KeeperSeen, desk_in}
 use Rattle.token_table.proofs.Seated.{admit_asks, word_there}

@@ -1,5 +1,5 @@
 use Rattle.std.proofs.lemmas.Grind.{get_or_default_zero}
-use Rattle.std.proofs.Common.{◌≡◌, ℕ, ◌*◌, List, ◌<◌, true, length, get_or, sym, ap, subst, ◌∙◌, rules, refl, arith}
+use Rattle.std.proofs.Common.{◌≡◌, ℕ, ◌*◌, List, ◌<◌, length, get_or, sym, ap, subst, ◌∙◌, refl}
 use Rattle.file_model.specs.Tries.{is_odd}
 use Rattle.token_table.specs.Seats.{KeeperSeen, desk_in}
 use Rattle.token_table.proofs.Seated.{evict_asks, word_there}

@@ -1,4 +1,4 @@
-use Rattle.std.proofs.Common.{◌≡◌, IfOk, vec_len, ℕ, ◌+◌, ◌*◌, ◌<◌, List, length, get_or, sym, ap, subst, ◌∙◌, rules, arith}
+use Rattle.std.proofs.Common.{◌≡◌, IfOk, vec_len, ℕ, List, length, sym, ap, subst, ◌∙◌, arith}
 use Rattle.std.specs.Mem.Slots.{slots_items}
 use Rattle.token_words.specs.declared.entries.Word.{Word}
 use Rattle.token_words.specs.PlainTokens.{HasWords}

@@ -1,10 +1,10 @@
-use Rattle.std.proofs.Common.{◌≡◌, ◌<◌, true, sym, ap, subst, ◌∙◌, rules, arith}
+use Rattle.std.proofs.Common.{◌≡◌, ◌<◌, sym, ap, subst, ◌∙◌}
 use Rattle.atomic_table.specs.Seated.{TableId}
 use Rattle.token_table.specs.declared.knowledge.View.TheVariants.{Session}
 use Rattle.token_table.specs.declared.knowledge.Own.{Own}
 use Rattle.token_table.specs.Known.{has}
-use Rattle.token_table.specs.Changes.{seated, after_leave}
-use Rattle.token_table.specs.Seats.{SessionSeen, own_in, IsSeatOf}
+use Rattle.token_table.specs.Changes.{after_leave}
+use Rattle.token_table.specs.Seats.{SessionSeen, own_in}
 use Rattle.token_table.proofs.Seated.{at_session, seat_after, seat-after_leave, leave_asks}
 use Rattle.token_table.proofs.tables.TokenTable.leave.Goals as goal
 

@@ -1,4 +1,4 @@
-use Rattle.std.proofs.Common.{◌≡◌, ◌<◌, sym, ap, subst, ◌∙◌, rules, arith}
+use Rattle.std.proofs.Common.{◌<◌, sym, ap, subst, ◌∙◌}
 use Rattle.token_table.specs.Seats.{KeeperSeen, desk_in}
 use Rattle.token_table.proofs.Seated.{making_asks}
 use Rattle.token_table.proofs.tables.TokenTable.make_session.Goals as goal

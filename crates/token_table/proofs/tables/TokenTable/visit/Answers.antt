@@ -1,8 +1,6 @@
-use Rattle.std.proofs.Common.{◌≡◌, true, false, get_or, sym, ap, subst, ◌∙◌, rules, arith, Some, None}
-use Rattle.token_table.specs.declared.knowledge.Own.{Own}
+use Rattle.std.proofs.Common.{sym, ap, ◌∙◌, Some}
 use Rattle.token_table.specs.declared.knowledge.Desk.{Desk}
-use Rattle.token_table.specs.declared.knowledge.View.TheVariants.{Session, Keeper}
-use Rattle.token_table.specs.Changes.{seated, with_guest}
+use Rattle.token_table.specs.Changes.{with_guest}
 use Rattle.token_table.specs.Seats.{SessionSeen, KeeperSeen, own_in, desk_in}
 use Rattle.token_table.proofs.Seated.{visit_asks, watch_asks, leaving_asks, welcomed}
 use Rattle.token_table.proofs.tables.TokenTable.visit.Goals as goal
