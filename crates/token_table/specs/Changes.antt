@@ -59,13 +59,15 @@ module _ {S : Type 0} where
   abbrev pub Tries : Step S → Me S View → ℕ → Me S View → Type 0
   Tries step me found next = (own : Own) → me.0 ≡ Session own → next ≡ seated (Session (after_try step.word (found / 4294967296) own))
 
+  -- the use is gone
   abbrev pub Leaves : Step S → Me S View → ℕ → Me S View → Type 0
   Leaves step me found next = (own : Own) → me.0 ≡ Session own → next ≡ seated (Session (after_leave step.word own))
 
+  -- the epoch rises, and what the keeper knows fits
   abbrev pub Admits : Step S → Me S View → ℕ → Me S View → Type 0
   Admits step me found next = (desk : Desk) → me.0 ≡ Keeper desk → (next ≡ seated (Keeper (with_risen step.word desk))) × IsDesk (with_risen step.word desk)
 
-  -- the uses are those of the word that was found
+  -- the uses are those of the word that was found, and what the keeper knows fits
   abbrev pub Evicts : Step S → Me S View → ℕ → Me S View → Type 0
   Evicts step me found next = (desk : Desk) → me.0 ≡ Keeper desk
       → (uses : ℕ) × (found ≡ slice_index desk.epochs step.word * 4294967296 + uses) × (uses ≤ 65) × (next ≡ seated (Keeper (after_eviction step.word uses desk))) × IsDesk (after_eviction step.word uses desk)
@@ -74,33 +76,37 @@ module _ {S : Type 0} where
   abbrev pub Watches : Step S → Me S View → ℕ → Me S View → Type 0
   Watches step me found next = (desk : Desk) → me.0 ≡ Keeper desk → (next ≡ seated (Keeper desk)) × IsDesk desk
 
--- the keeper's seat takes in the session's
+-- the keeper's seat takes in the session's for a visit
 abbrev pub welcoming : View → View → View
 welcoming (Keeper desk) (Session own) = Keeper (with_guest (Some own) desk)
 welcoming view other = view
 
+-- the keeper's seat takes in the session's for good
 abbrev pub ending : View → View → View
 ending (Keeper desk) (Session own) = Keeper (with_ended own desk)
 ending view other = view
 
--- the session is split off again
+-- the keeper's seat after a visit
 abbrev pub alone : View → View
 alone (Keeper desk) = Keeper (with_guest None desk)
 alone view = view
 
+-- the guest's seat, if there is a guest
 abbrev pub session_or_spent : Option Own → View
 session_or_spent None = Spent
 session_or_spent (Some own) = Session own
 
+-- the seat that is split off after a visit
 abbrev pub leaving : View → View
 leaving (Keeper desk) = session_or_spent desk.guest
 leaving view = Spent
 
--- the next session is split off
+-- the keeper's seat when the next session is split off
 abbrev pub making : View → View
 making (Keeper desk) = Keeper (with_made desk)
 making view = view
 
+-- the next session's seat
 abbrev pub made_next : View → View
 made_next (Keeper desk) = Session (newcomer (desk.made + 1))
 made_next view = Spent

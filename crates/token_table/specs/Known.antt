@@ -48,6 +48,7 @@ pub record IsHolder (epochs : List ℕ) (own : Own) : Type 0 where
   pub there : (p : ℕ) → has own.locks p ≡ true → is_odd (slice_index epochs p) ≡ true
   pub tries : AreTries epochs own.tries
 
+-- the same of a guest, if there is one
 abbrev pub IsGuest : List ℕ → Option Own → Type 0
 IsGuest epochs None = Unit {0}
 IsGuest epochs (Some own) = IsHolder epochs own
@@ -77,19 +78,21 @@ uses_of p Spent = 0
 uses_of p (Session own) = own_uses p own
 uses_of p (Keeper desk) = slice_index desk.pins p + of_guest (own_uses p) desk.guest
 
--- how many uses of one patch a seat may have
+-- how many uses of one patch the keeper may have: what the sessions haven't
 abbrev pub desk_allowance : Desk → ℕ
 desk_allowance desk = (65 - desk.made) + length desk.ended + of_guest (λ _. 1) desk.guest
 
+-- the same of any seat: the allowances of all seats sum to 65
 abbrev pub allowance : View → ℕ
 allowance Spent = 0
 allowance (Session own) = 1
 allowance (Keeper desk) = desk_allowance desk
 
--- how often a session's number stands in what a seat knows
+-- how often a session's number stands in what the keeper knows
 abbrev pub desk_numbers : ℕ → Desk → ℕ
 desk_numbers n desk = total (λ session. one_if (nat_eq n session.number)) desk.ended + of_guest (λ own. one_if (nat_eq n own.number)) desk.guest
 
+-- the same of any seat
 abbrev pub numbers_of : ℕ → View → ℕ
 numbers_of n Spent = 0
 numbers_of n (Session own) = one_if (nat_eq n own.number)
