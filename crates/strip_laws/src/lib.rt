@@ -1,0 +1,5 @@
+//! The strip: a mesh of any even number of columns.
+#![tactic(auto)]
+
+/// Nothing.
+pub fn nothing() {}
