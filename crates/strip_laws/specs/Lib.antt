@@ -5,3 +5,5 @@ pub mod EdgeNets
 pub mod StripGraph
 pub mod NodeNets
 pub mod StripNodes
+pub mod StripBodies
+pub mod StripRules

@@ -4,6 +4,7 @@ use Rattle.std.specs.Prelude.{slice_get, IsTrue, ◌==◌, nat_le, pos, ◌-ℤ�
 use Rattle.std.specs.List.{AllByRecursion, range_with_len}
 use Rattle.std.proofs.lemmas.Bool.{cases_eq, eq-eqb, le-leb, and_from, or_left, or_right, cond-true, cond-false}
 use Rattle.std.proofs.lemmas.Int.{ints}
+use Rattle.std.proofs.lemmas.Nat.{mul-le}
 use Rattle.std.proofs.lemmas.List.FromFn.{length-map-range_with_len}
 use Rattle.grid_vertex.specs.declared.points.Point.{Point}
 use Rattle.grid_vertex.specs.Points.{gap, square as squared, distance_squared_of}
@@ -111,7 +112,7 @@ all_nested test version c nests p f here =
 
 -- ---- errors
 
-square_error : (i : ℕ) → ((square_node i).error ≤ 64) × (48 ≤ (square_node i).error)
+pub square_error : (i : ℕ) → ((square_node i).error ≤ 64) × (48 ≤ (square_node i).error)
 square_error i = elim (i % 2 == 0) as (λ t. (cond t 64 48 ≤ 64) × (48 ≤ cond t 64 48)) [ true ↦ (omega arith, omega arith) | false ↦ (omega arith, omega arith) ]
 
 pub errors_nested : (version c : ℕ) → AllNested has_no_more_error (strip_file version c).index
@@ -125,3 +126,19 @@ errors_nested version c = all_nested has_no_more_error version c (record {
 
 pub gap_within : (a b d : ℕ) → a ≤ b + d → b ≤ a + d → unsigned_abs (pos a -ℤ pos b) ≤ d
 gap_within a b d h k = omega (arith, ints)
+
+-- balls in the plane y = 2, whose centres are at most d apart
+ball_within : (x x' r s d e e' : ℕ) → x ≤ x' + d → x' ≤ x + d → s + d ≤ r → has_ball_within (node_at (flat x 2) r e) (node_at (flat x' 2) s e') ≡ true
+unfolding is_ball_within distance_squared_of
+ball_within x x' r s d e e' left right room =
+    let apart : gap (pos x) (pos x') ≤ d = gap_within x x' d left right in
+    let near = mul-le (gap (pos x) (pos x')) (gap (pos x) (pos x')) d d apart apart in
+    let slack = mul-le d d (r - s) (r - s) (omega arith) (omega arith) in
+    and_from (leb s r) (leb (squared (gap (pos x) (pos x')) + 0 + 0) (squared (r - s))) (le-leb s r (omega arith)) (le-leb (squared (gap (pos x) (pos x')) + 0 + 0) (squared (r - s)) (omega arith))
+
+pub balls_nested : (version c : ℕ) → AllNested has_ball_within (strip_file version c).index
+balls_nested version c = all_nested has_ball_within version c (record {
+    squares = λ i less. ball_within (2 * c) (4 * i + 2) (2 * c + 5) 7 (2 * c - 2) 128 (square_node i).error (omega arith) (omega arith) (omega arith);
+    lefts = λ i some less. ball_within (4 * i + 2) (4 * i) 7 5 2 (square_node i).error 16 (omega arith) (omega arith) (omega arith);
+    rights = λ i less. ball_within (4 * i + 2) (4 * (i + 1)) 7 5 2 (square_node i).error 16 (omega arith) (omega arith) (omega arith);
+  })
