@@ -5,5 +5,7 @@ pub mod EdgeNets
 pub mod StripGraph
 pub mod NodeNets
 pub mod StripNodes
+pub mod StripCounts
 pub mod StripBodies
 pub mod StripRules
+pub mod StripFrames

@@ -38,7 +38,7 @@ chosen_given test (p ∷ ps) =
 
 -- ---- by kind
 
-flat_nested : {A B C : Type 0} (h : B → List C) (g : A → List B) (xs : List A) → flat_map h (flat_map g xs) ≡ flat_map (λ x. flat_map h (g x)) xs
+pub flat_nested : {A B C : Type 0} (h : B → List C) (g : A → List B) (xs : List A) → flat_map h (flat_map g xs) ≡ flat_map (λ x. flat_map h (g x)) xs
 flat_nested h g [] = refl
 flat_nested h g (x ∷ xs) = flat_map-append h (g x) (flat_map g xs) ∙ ap (λ rest. flat_map h (g x) ++ rest) (flat_nested h g xs)
 

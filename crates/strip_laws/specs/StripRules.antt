@@ -1,51 +1,25 @@
 -- The strip is a patch file in either version, and its mesh is accepted.
 use Rattle.std.proofs.Common.{◌≡◌, ℕ, zero, suc, ◌+◌, ◌-◌, ◌*◌, ◌<◌, ◌≤◌, Bool, true, false, not, ◌&&◌, ◌||◌, cond, eqb, ltb, leb, List, [], ◌∷◌, ◌++◌, length, map, pos, refl, sym, ap, subst, ◌∙◌, arith, length-append, inl, inr}
 use Rattle.std.specs.Prelude.{◌==◌, unsigned_abs}
-use Rattle.std.specs.List.{AllByRecursion, list_all, flat_map, range_with_len, sum_by}
+use Rattle.std.specs.List.{AllByRecursion, list_all, flat_map, range_with_len}
 use Rattle.std.proofs.lemmas.Bool.{cases_eq, cases_lt, lt-ltb, le-leb, and_from, or_left, or_right, not_from_true}
-use Rattle.std.proofs.lemmas.List.FromFn.{length-map-range_with_len}
 use Rattle.grid_vertex.specs.Points.{is_in_grid}
 use Rattle.file_model.specs.declared.fields.Node.{Node}
 use Rattle.file_model.specs.declared.fields.PatchField.{PatchField}
 use Rattle.file_model.specs.Lists.{BodyLists, IndexLists}
 use Rattle.file_model.specs.Spelling.{file_text}
+use Rattle.file_model.specs.Reading.{file_size}
+use Rattle.file_laws.specs.Files.{length-file_text}
 use Rattle.file_model.specs.Rules.{is_version, is_node, has_ends, has_counts, is_field, fits_field, is_body, are_bodies, IsIndex, IsPatchFile}
 use Rattle.mesh_model.specs.Graph.{is_root, is_sink}
 use Rattle.mesh_model.specs.Accepted.{is_inner, KeepsNets, IsNestedGraph, IsAccepted}
 use Rattle.strip_laws.specs.Strip.{StripPatch, flat, node_at, root_node, square_node, edge_node, sink_node, strip_nodes, square_at, edge_at, square, left_half, right_half, halves, opened, strip_patches, fields_of, bodies_of, strip_file}
 use Rattle.strip_laws.specs.Kinds.{EachKind, each_append, each_map, each_in_range, each_below, each_patch, each_field}
+use Rattle.strip_laws.specs.StripCounts.{patch_count, field_count, bodies_size_1, bodies_size_2}
 use Rattle.strip_laws.specs.StripGraph.{edge_within, first_is_root, last_is_sink, one_root, all_grounded}
 use Rattle.strip_laws.specs.NodeNets.{square_keeps, edge_keeps}
 use Rattle.strip_laws.specs.StripNodes.{node_count, square_error, errors_nested, balls_nested}
 use Rattle.strip_laws.specs.StripBodies.{all_pass, square_is_body, left_is_body, right_is_body, round_is_body}
-
--- ---- counts
-
-half_count : (c : ℕ) (xs : List ℕ) → length (flat_map (halves c) xs) ≡ 2 * length xs
-half_count c [] = refl
-half_count c (x ∷ xs) = let rest : length (flat_map (halves c) xs) ≡ 2 * length xs = half_count c xs in omega arith
-
-range_count : (n a : ℕ) → length (range_with_len a n) ≡ n
-range_count zero a = refl
-range_count (suc n) a = ap suc (range_count n (a + 1))
-
-pub patch_count : (c : ℕ) → 1 ≤ c → length (strip_patches c) + 1 ≡ 4 * c
-unfolding strip_patches
-patch_count c some =
-    let squares = map square (range_with_len 0 c) in
-    let both = flat_map (halves c) (range_with_len 0 c) in
-    let rounds = map (opened c) (range_with_len 0 (c - 1)) in
-    let whole : length (squares ++ (both ++ rounds)) ≡ c + (2 * length (range_with_len 0 c) + (c - 1)) =
-      length-append squares (both ++ rounds) ∙ (λ t. length-map-range_with_len square 0 c t + (length-append both rounds ∙ (λ s. half_count c (range_with_len 0 c) s + length-map-range_with_len (opened c) 0 (c - 1) s)) t) in
-    let many : length (range_with_len 0 c) ≡ c = range_count c 0 in
-    omega arith
-
-length_mapped : {X Y : Type 0} (f : X → Y) (xs : List X) → length (map f xs) ≡ length xs
-length_mapped f [] = refl
-length_mapped f (x ∷ xs) = ap suc (length_mapped f xs)
-
-pub field_count : (c : ℕ) → length (fields_of (strip_patches c)) ≡ length (strip_patches c)
-field_count c = length_mapped (λ (p : StripPatch). p.field) (strip_patches c)
 
 -- ---- nodes and fields
 
@@ -156,3 +130,26 @@ strip_is_accepted version c some =
       };
       nets = λ v node. keeps version c v some (omega arith);
     }
+
+-- ---- lengths
+
+file_length : (version c : ℕ) → 2 ≤ c → c ≤ 16384 → length (file_text (strip_file version c)) ≡ file_size (strip_file version c).index
+file_length version c some few = length-file_text (strip_file version c) (strip_bodies version c few)
+
+pub file_length_1 : (c : ℕ) → 2 ≤ c → c ≤ 16384 → length (file_text (strip_file 1 c)) + 96 ≡ 388 * c
+file_length_1 c some few =
+    let nodes = node_count c (omega arith) in
+    let patches = field_count c in
+    let fourth = patch_count c (omega arith) in
+    let bodies = bodies_size_1 c (omega arith) in
+    let size = file_length 1 c some few in
+    omega arith
+
+pub file_length_2 : (c : ℕ) → 2 ≤ c → c ≤ 16384 → length (file_text (strip_file 2 c)) + 66 ≡ 322 * c
+file_length_2 c some few =
+    let nodes = node_count c (omega arith) in
+    let patches = field_count c in
+    let fourth = patch_count c (omega arith) in
+    let bodies = bodies_size_2 c (omega arith) in
+    let size = file_length 2 c some few in
+    omega arith
