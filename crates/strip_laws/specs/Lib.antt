@@ -9,3 +9,5 @@ pub mod StripCounts
 pub mod StripBodies
 pub mod StripRules
 pub mod StripFrames
+pub mod Borders
+pub mod StripBorder

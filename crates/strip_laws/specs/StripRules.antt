@@ -60,7 +60,7 @@ fields_good nodes c some many = each_field (λ f. is_field nodes f ≡ true) c (
 between : (low high n : ℕ) → low ≤ n → n ≤ high → (leb low n && leb n high) ≡ true
 between low high n above below = and_from (leb low n) (leb n high) (le-leb low n above) (le-leb n high below)
 
-strip_index : (version c : ℕ) → is_version version ≡ true → 2 ≤ c → c ≤ 16384 → IsIndex (strip_file version c).index
+pub strip_index : (version c : ℕ) → is_version version ≡ true → 2 ≤ c → c ≤ 16384 → IsIndex (strip_file version c).index
 strip_index version c known some few =
     let nodes : length (strip_nodes c) ≡ 2 * c + 1 = node_count c (omega arith) in
     let patches : length (fields_of (strip_patches c)) ≡ length (strip_patches c) = field_count c in
