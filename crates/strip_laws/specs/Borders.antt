@@ -1,22 +1,17 @@
 -- The open edges of the base of the strip are its border, and those of every frame too.
-use Rattle.std.proofs.Common.{◌≡◌, ℕ, zero, suc, ◌+◌, ◌-◌, ◌*◌, ◌<◌, ◌≤◌, Bool, true, false, ◌&&◌, ◌||◌, cond, List, [], ◌∷◌, ◌++◌, length, map, ℤ, pos, refl, sym, ap, subst, ◌∙◌, arith, inl, inr}
-use Rattle.std.specs.Prelude.{◌⊎◌, ◌-ℤ◌, int_lt}
+use Rattle.std.proofs.Common.{◌≡◌, ℕ, zero, suc, ◌+◌, Bool, true, false, ◌&&◌, cond, List, [], ◌∷◌, map, ℤ, pos, refl, sym, ap, subst, ◌∙◌, arith, inl, inr}
+use Rattle.std.specs.Prelude.{◌⊎◌, ◌-ℤ◌}
 use Rattle.std.specs.Ordering.{int_eq}
-use Rattle.std.specs.List.{AllByRecursion, Contains, flat_map, range_with_len}
+use Rattle.std.specs.List.{AllByRecursion, Contains}
 use Rattle.std.proofs.lemmas.Int.{ints}
-use Rattle.std.proofs.lemmas.Bool.{and_parts, and_from, or_left, or_right, cases_Bool, false_from_ne_true}
+use Rattle.std.proofs.lemmas.Bool.{and_parts, and_from, cases_Bool, false_from_ne_true}
 use Rattle.std.proofs.lemmas.Bool.Decides.{Decides-int_eq}
-use Rattle.std.proofs.lemmas.List.{length-map}
 use Rattle.grid_vertex.specs.declared.points.Point.{Point}
 use Rattle.grid_vertex.specs.declared.triangles.Triangle.{Triangle}
 use Rattle.grid_vertex.specs.Points.{is_same_point}
-use Rattle.file_model.specs.Lists.{triangle_of, triangles_from, point_at_place}
-use Rattle.mesh_model.specs.Nets.{one_if, is_edge, times, net, is_before, Pair, is_forward, is_pair_before, Ascend, AreOpen}
-use Rattle.mesh_model.specs.NetLaws.{times-append}
-use Rattle.mesh_model.specs.Orders.{before_one_way, point_exact, pair_one_way}
-use Rattle.strip_laws.specs.Strip.{flat, low, high, square}
-use Rattle.strip_laws.specs.Picks.{own}
-use Rattle.strip_laws.specs.EdgeNets.{tri, seen, turned, times_none, times_of}
+use Rattle.mesh_model.specs.Nets.{one_if, is_edge, net, Pair, is_forward, is_pair_before, Ascend, AreOpen}
+use Rattle.mesh_model.specs.Orders.{point_exact, pair_one_way}
+use Rattle.strip_laws.specs.EdgeNets.{seen}
 
 -- ---- lists of borders
 
@@ -59,10 +54,10 @@ same_seen p q e = subst (λ (r : Pair). one_if (is_edge p.a p.b r.a r.b) ≡ 1) 
 other_seen : (p q : Pair) → (p ≡ q → ⊥) → seen p.a p.b q.a q.b ≡ 0
 unfolding seen
 other_seen p q apart = ap one_if (false_from_ne_true (is_edge p.a p.b q.a q.b) (λ h.
-      let both = and_parts (is_same_point q.a p.a) (is_same_point q.b p.b) h in
-      let a = point_exact q.a p.a both.0 in
-      let b = point_exact q.b p.b both.1 in
-      apart (λ i. record { a = sym a i; b = sym b i })))
+    let both = and_parts (is_same_point q.a p.a) (is_same_point q.b p.b) h in
+    let a = point_exact q.a p.a both.0 in
+    let b = point_exact q.b p.b both.1 in
+    apart (λ i. record { a = sym a i; b = sym b i })))
 
 both_zero : (t : Bool) (x y n : ℕ) → x ≡ 0 → y ≡ 0 → n ≡ 0 → cond t x y + n ≡ 0
 both_zero true x y n h k e = omega arith
@@ -101,8 +96,8 @@ unfolding ups downs
 counts_differ p [] up at same = absurd (omega (arith, at.1))
 counts_differ p (b ∷ bs) up (zero, within, is) same =
     let later = never_past (λ q. p ≡ q → ⊥) (pairs_of bs) (λ q at e.
-      let before = subst (λ (r : Pair). is_pair_before b.pair r ≡ true) (sym e ∙ sym is) (up.0 q at) in
-      pair_one_way b.pair b.pair before before) in
+    let before = subst (λ (r : Pair). is_pair_before b.pair r ≡ true) (sym e ∙ sym is) (up.0 q at) in
+    pair_one_way b.pair b.pair before before) in
     let rest = no_ups p bs later in
     let one = same_seen p b.pair (sym is) in
     one_differs b.up (seen p.a p.b b.pair.a b.pair.b) (ups p.a p.b bs) (downs p.a p.b bs) one rest.0 rest.1 same
@@ -151,13 +146,13 @@ contains_cases p (q ∷ ps) =
 pub open_from_borders : (ts : List Triangle) (bs : List Border) → Ascend (pairs_of bs) → AllByRecursion (λ p. is_forward p ≡ true) (pairs_of bs)
     → ((p : Pair) → is_forward p ≡ true → net ts p.a p.b ≡ pos (ups p.a p.b bs) -ℤ pos (downs p.a p.b bs)) → AreOpen ts (pairs_of bs)
 open_from_borders ts bs up forward nets = record {
-    ascending = up;
-    forward = λ p at. contained (λ q. is_forward q ≡ true) (pairs_of bs) p forward at;
-    open_edges = λ p ahead. (
-      λ at none. counts_differ p bs up at (zero_apart (ups p.a p.b bs) (downs p.a p.b bs) (sym (nets p ahead) ∙ none)),
-      λ some. elim (contains_cases p (pairs_of bs)) [
-        | inl at ↦ at
-        | inr none ↦ let counts = counts_agree p bs none in absurd (some (nets p ahead ∙ (λ i. pos (counts.0 i) -ℤ pos (counts.1 i))))
-      ],
-    );
-  }
+  ascending = up;
+  forward = λ p at. contained (λ q. is_forward q ≡ true) (pairs_of bs) p forward at;
+  open_edges = λ p ahead. (
+    λ at none. counts_differ p bs up at (zero_apart (ups p.a p.b bs) (downs p.a p.b bs) (sym (nets p ahead) ∙ none)),
+    λ some. elim (contains_cases p (pairs_of bs)) [
+      | inl at ↦ at
+      | inr none ↦ let counts = counts_agree p bs none in absurd (some (nets p ahead ∙ (λ i. pos (counts.0 i) -ℤ pos (counts.1 i))))
+    ],
+  );
+}

@@ -1,9 +1,8 @@
 -- What holds of each patch of the strip, by its four kinds.
-use Rattle.std.proofs.Common.{◌≡◌, ℕ, zero, suc, ◌+◌, ◌-◌, ◌<◌, Bool, false, List, [], ◌∷◌, ◌++◌, map, refl, sym, subst, arith}
-use Rattle.std.specs.List.{AllByRecursion, list_any, flat_map, range_with_len}
+use Rattle.std.proofs.Common.{◌≡◌, ℕ, zero, suc, ◌+◌, ◌-◌, ◌<◌, List, [], ◌∷◌, ◌++◌, map, subst, arith}
+use Rattle.std.specs.List.{AllByRecursion, flat_map, range_with_len}
 use Rattle.file_model.specs.declared.fields.PatchField.{PatchField}
-use Rattle.file_model.specs.Lists.{BodyLists}
-use Rattle.strip_laws.specs.Strip.{StripPatch, square, left_half, right_half, halves, opened, strip_patches, fields_of, bodies_of}
+use Rattle.strip_laws.specs.Strip.{StripPatch, square, left_half, right_half, halves, opened, strip_patches, fields_of}
 
 -- ---- lists
 

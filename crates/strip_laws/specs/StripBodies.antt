@@ -1,5 +1,5 @@
 -- The bodies of the strip follow the rules of a patch file in either version.
-use Rattle.std.proofs.Common.{◌≡◌, ℕ, zero, suc, ◌+◌, ◌*◌, ◌<◌, ◌≤◌, Bool, true, false, not, ◌&&◌, ◌||◌, cond, eqb, leb, List, [], ◌∷◌, length, map, ℤ, pos, refl, sym, ap, subst, ◌∙◌, arith, inl, inr}
+use Rattle.std.proofs.Common.{◌≡◌, ℕ, ◌+◌, ◌*◌, ◌<◌, ◌≤◌, Bool, true, false, not, ◌&&◌, ◌||◌, cond, leb, List, [], ◌∷◌, map, ℤ, pos, refl, sym, subst, arith}
 use Rattle.std.specs.Prelude.{◌==◌, ◌-ℤ◌, unsigned_abs, int_lt}
 use Rattle.std.specs.Int.{int_min}
 use Rattle.std.specs.Ordering.{int_eq}
@@ -7,12 +7,12 @@ use Rattle.std.specs.List.{AllByRecursion, fold, list_all}
 use Rattle.std.proofs.lemmas.Bool.{le-leb, and_from, and_parts, or_from, not_from_false, false_from_ne_true}
 use Rattle.std.proofs.lemmas.Bool.Decides.{Decides-int_eq}
 use Rattle.grid_vertex.specs.declared.points.Point.{Point}
-use Rattle.grid_vertex.specs.declared.triangles.Triangle.{Triangle}
 use Rattle.grid_vertex.specs.Points.{is_in_grid, is_same_point}
 use Rattle.grid_vertex.specs.Triangles.{is_flat_triangle}
-use Rattle.file_model.specs.Lists.{Corners, BodyLists, triangle_of, point_at_place}
+use Rattle.file_model.specs.Lists.{Corners, triangle_of, point_at_place}
 use Rattle.file_model.specs.Spelling.{least, origin_of}
 use Rattle.file_model.specs.Rules.{is_near_origin, is_narrow, is_triangle, is_body}
+use Rattle.frame_laws.specs.Each.{each_then}
 use Rattle.strip_laws.specs.Strip.{flat, low, high, middle, halfway, square_body, left_body, right_body, round_body}
 use Rattle.strip_laws.specs.EdgeNets.{tri}
 use Rattle.strip_laws.specs.Kinds.{each_map}
@@ -21,10 +21,6 @@ use Rattle.strip_laws.specs.StripNodes.{gap_within}
 pub all_pass : {X : Type 0} (test : X → Bool) (xs : List X) → AllByRecursion (λ x. test x ≡ true) xs → list_all test xs ≡ true
 all_pass test [] h = refl
 all_pass test (x ∷ xs) h = and_from (test x) (list_all test xs) h.0 (all_pass test xs h.1)
-
-each_thus : {X : Type 0} (P Q : X → Type 0) (xs : List X) → ((x : X) → P x → Q x) → AllByRecursion P xs → AllByRecursion Q xs
-each_thus P Q [] step h = tt
-each_thus P Q (x ∷ xs) step h = (step x h.0, each_thus P Q xs step h.1)
 
 -- ---- coordinates
 
@@ -43,10 +39,10 @@ record Lies (from : ℕ) (p : Point) : Type 0 where
 
 lies : (from x y : ℕ) → from ≤ x → x ≤ from + 65535 → y ≤ 65535 → Lies from (flat x y)
 lies from x y above below short = record {
-    x = record { at = x; is = refl; above = above; below = below };
-    y = record { at = y; is = refl; above = omega arith; below = omega arith };
-    z = record { at = 0; is = refl; above = omega arith; below = omega arith };
-  }
+  x = record { at = x; is = refl; above = above; below = below };
+  y = record { at = y; is = refl; above = omega arith; below = omega arith };
+  z = record { at = 0; is = refl; above = omega arith; below = omega arith };
+}
 
 either_ranges : (from : ℕ) (t : Bool) (a b : ℤ) → Ranges from a → Ranges from b → Ranges from (cond t a b)
 either_ranges from true a b h k = h
@@ -74,10 +70,10 @@ least_of from at p ps h = least_ranges from (map at ps) (at p) h.0 (each_map (Ra
 origin_lies : (from : ℕ) (p : Point) (ps : List Point) → AllByRecursion (Lies from) (p ∷ ps) → Lies from (origin_of (p ∷ ps))
 unfolding origin_of
 origin_lies from p ps h = record {
-    x = least_of from (λ (q : Point). q.x) p ps (each_thus (Lies from) (λ q. Ranges from q.x) (p ∷ ps) (λ q l. l.x) h);
-    y = least_of 0 (λ (q : Point). q.y) p ps (each_thus (Lies from) (λ q. Ranges 0 q.y) (p ∷ ps) (λ q l. l.y) h);
-    z = least_of 0 (λ (q : Point). q.z) p ps (each_thus (Lies from) (λ q. Ranges 0 q.z) (p ∷ ps) (λ q l. l.z) h);
-  }
+  x = least_of from (λ (q : Point). q.x) p ps (each_then (Lies from) (λ q. Ranges from q.x) (p ∷ ps) (λ q l. l.x) h);
+  y = least_of 0 (λ (q : Point). q.y) p ps (each_then (Lies from) (λ q. Ranges 0 q.y) (p ∷ ps) (λ q l. l.y) h);
+  z = least_of 0 (λ (q : Point). q.z) p ps (each_then (Lies from) (λ q. Ranges 0 q.z) (p ∷ ps) (λ q l. l.z) h);
+}
 
 if_version : (t x : Bool) → x ≡ true → cond t x true ≡ true
 if_version true x e = e
@@ -86,7 +82,7 @@ if_version false x e = refl
 narrow : (version from : ℕ) (p : Point) (ps : List Point) → AllByRecursion (Lies from) (p ∷ ps) → is_narrow version (p ∷ ps) ≡ true
 narrow version from p ps h =
     if_version (version == 2) (list_all (is_near_origin (origin_of (p ∷ ps))) (p ∷ ps))
-    (all_pass (is_near_origin (origin_of (p ∷ ps))) (p ∷ ps) (each_thus (Lies from) (λ q. is_near_origin (origin_of (p ∷ ps)) q ≡ true) (p ∷ ps) (λ q l. near_by from (origin_of (p ∷ ps)) q (origin_lies from p ps h) l) h))
+    (all_pass (is_near_origin (origin_of (p ∷ ps))) (p ∷ ps) (each_then (Lies from) (λ q. is_near_origin (origin_of (p ∷ ps)) q ≡ true) (p ∷ ps) (λ q l. near_by from (origin_of (p ∷ ps)) q (origin_lies from p ps h) l) h))
 
 -- ---- the grid
 
@@ -105,7 +101,7 @@ unfolding is_body
 body_by version from p ps ts early h good =
     and_from (list_all is_in_grid (p ∷ ps) && is_narrow version (p ∷ ps)) (list_all (is_triangle (p ∷ ps)) ts)
     (and_from (list_all is_in_grid (p ∷ ps)) (is_narrow version (p ∷ ps))
-    (all_pass is_in_grid (p ∷ ps) (each_thus (Lies from) (λ q. is_in_grid q ≡ true) (p ∷ ps) (λ q l. grid_by from q early l) h))
+    (all_pass is_in_grid (p ∷ ps) (each_then (Lies from) (λ q. is_in_grid q ≡ true) (p ∷ ps) (λ q l. grid_by from q early l) h))
     (narrow version from p ps h))
     good
 
@@ -117,8 +113,8 @@ int_apart x x' h = let same = (Decides-int_eq (pos x) (pos x')).0 h in cc
 differ : (x y x' y' : ℕ) → (x ≡ x' → y ≡ y' → ⊥) → is_same_point (flat x y) (flat x' y') ≡ false
 differ x y x' y' apart =
     false_from_ne_true (is_same_point (flat x y) (flat x' y')) (λ h.
-      let xy = and_parts (int_eq (pos x) (pos x')) (int_eq (pos y) (pos y')) (and_parts (int_eq (pos x) (pos x') && int_eq (pos y) (pos y')) (int_eq (pos 0) (pos 0)) h).0 in
-      apart (int_apart x x' xy.0) (int_apart y y' xy.1))
+    let xy = and_parts (int_eq (pos x) (pos x')) (int_eq (pos y) (pos y')) (and_parts (int_eq (pos x) (pos x') && int_eq (pos y) (pos y')) (int_eq (pos 0) (pos 0)) h).0 in
+    apart (int_apart x x' xy.0) (int_apart y y' xy.1))
 
 not_flat : (p q r : Point) → is_same_point p q ≡ false → is_same_point q r ≡ false → is_same_point r p ≡ false → not (is_flat_triangle (tri p q r)) ≡ true
 unfolding is_flat_triangle
@@ -134,21 +130,24 @@ unfolding triangle_of point_at_place
 square_good i =
     all_pass (is_triangle (square_body i).points) (square_body i).corners (
       good (4 * i) 0 (4 * (i + 1)) 0 (4 * (i + 1)) 4 (λ x y. absurd (omega arith)) (λ x y. absurd (omega arith)) (λ x y. absurd (omega arith)),
-      (good (4 * i) 0 (4 * (i + 1)) 4 (4 * i) 4 (λ x y. absurd (omega arith)) (λ x y. absurd (omega arith)) (λ x y. absurd (omega arith)), tt))
+      (good (4 * i) 0 (4 * (i + 1)) 4 (4 * i) 4 (λ x y. absurd (omega arith)) (λ x y. absurd (omega arith)) (λ x y. absurd (omega arith)), tt),
+    )
 
 left_good : (i : ℕ) → list_all (is_triangle (left_body i).points) (left_body i).corners ≡ true
 unfolding triangle_of point_at_place
 left_good i =
     all_pass (is_triangle (left_body i).points) (left_body i).corners (
       good (4 * i) 4 (4 * i) 0 (4 * i + 2) 2 (λ x y. absurd (omega arith)) (λ x y. absurd (omega arith)) (λ x y. absurd (omega arith)),
-      (good (4 * i) 0 (4 * (i + 1)) 0 (4 * i + 2) 2 (λ x y. absurd (omega arith)) (λ x y. absurd (omega arith)) (λ x y. absurd (omega arith)), tt))
+      (good (4 * i) 0 (4 * (i + 1)) 0 (4 * i + 2) 2 (λ x y. absurd (omega arith)) (λ x y. absurd (omega arith)) (λ x y. absurd (omega arith)), tt),
+    )
 
 right_good : (i : ℕ) → list_all (is_triangle (right_body i).points) (right_body i).corners ≡ true
 unfolding triangle_of point_at_place
 right_good i =
     all_pass (is_triangle (right_body i).points) (right_body i).corners (
       good (4 * (i + 1)) 0 (4 * (i + 1)) 4 (4 * i + 2) 2 (λ x y. absurd (omega arith)) (λ x y. absurd (omega arith)) (λ x y. absurd (omega arith)),
-      (good (4 * (i + 1)) 4 (4 * i) 4 (4 * i + 2) 2 (λ x y. absurd (omega arith)) (λ x y. absurd (omega arith)) (λ x y. absurd (omega arith)), tt))
+      (good (4 * (i + 1)) 4 (4 * i) 4 (4 * i + 2) 2 (λ x y. absurd (omega arith)) (λ x y. absurd (omega arith)) (λ x y. absurd (omega arith)), tt),
+    )
 
 -- the edge h stands left of edge i
 round_good : (h i : ℕ) → h + 1 ≡ i → list_all (is_triangle (round_body h i).points) (round_body h i).corners ≡ true
@@ -156,11 +155,20 @@ unfolding triangle_of point_at_place
 round_good h i next =
     all_pass (is_triangle (round_body h i).points) (round_body h i).corners (
       good (4 * i) 0 (4 * i) 2 (4 * h + 2) 2 (λ x y. absurd (omega arith)) (λ x y. absurd (omega arith)) (λ x y. absurd (omega arith)),
-      (good (4 * i) 2 (4 * i) 4 (4 * h + 2) 2 (λ x y. absurd (omega arith)) (λ x y. absurd (omega arith)) (λ x y. absurd (omega arith)),
-      (good (4 * i) 4 (4 * h) 4 (4 * h + 2) 2 (λ x y. absurd (omega arith)) (λ x y. absurd (omega arith)) (λ x y. absurd (omega arith)),
-      (good (4 * i) 4 (4 * i) 2 (4 * i + 2) 2 (λ x y. absurd (omega arith)) (λ x y. absurd (omega arith)) (λ x y. absurd (omega arith)),
-      (good (4 * i) 2 (4 * i) 0 (4 * i + 2) 2 (λ x y. absurd (omega arith)) (λ x y. absurd (omega arith)) (λ x y. absurd (omega arith)),
-      (good (4 * i) 0 (4 * (i + 1)) 0 (4 * i + 2) 2 (λ x y. absurd (omega arith)) (λ x y. absurd (omega arith)) (λ x y. absurd (omega arith)), tt))))))
+      (
+        good (4 * i) 2 (4 * i) 4 (4 * h + 2) 2 (λ x y. absurd (omega arith)) (λ x y. absurd (omega arith)) (λ x y. absurd (omega arith)),
+        (
+          good (4 * i) 4 (4 * h) 4 (4 * h + 2) 2 (λ x y. absurd (omega arith)) (λ x y. absurd (omega arith)) (λ x y. absurd (omega arith)),
+          (
+            good (4 * i) 4 (4 * i) 2 (4 * i + 2) 2 (λ x y. absurd (omega arith)) (λ x y. absurd (omega arith)) (λ x y. absurd (omega arith)),
+            (
+              good (4 * i) 2 (4 * i) 0 (4 * i + 2) 2 (λ x y. absurd (omega arith)) (λ x y. absurd (omega arith)) (λ x y. absurd (omega arith)),
+              (good (4 * i) 0 (4 * (i + 1)) 0 (4 * i + 2) 2 (λ x y. absurd (omega arith)) (λ x y. absurd (omega arith)) (λ x y. absurd (omega arith)), tt),
+            ),
+          ),
+        ),
+      ),
+    )
 
 -- ---- bodies
 
@@ -184,7 +192,17 @@ right_is_body version i less =
 
 pub round_is_body : (version h i : ℕ) → h + 1 ≡ i → i < 16384 → is_body version (round_body h i) ≡ true
 round_is_body version h i next less =
-    body_by version (4 * h) (low i) (high i ∷ high h ∷ middle h ∷ low (i + 1) ∷ middle i ∷ halfway i ∷ []) (round_body h i).corners (omega arith)
-    (lies (4 * h) (4 * i) 0 (omega arith) (omega arith) (omega arith), (lies (4 * h) (4 * i) 4 (omega arith) (omega arith) (omega arith), (lies (4 * h) (4 * h) 4 (omega arith) (omega arith) (omega arith), (lies (4 * h) (4 * h + 2) 2 (omega arith) (omega arith) (omega arith),
-    (lies (4 * h) (4 * (i + 1)) 0 (omega arith) (omega arith) (omega arith), (lies (4 * h) (4 * i + 2) 2 (omega arith) (omega arith) (omega arith), (lies (4 * h) (4 * i) 2 (omega arith) (omega arith) (omega arith), tt)))))))
+    body_by version (4 * h) (low i) (high i ∷ high h ∷ middle h ∷ low (i + 1) ∷ middle i ∷ halfway i ∷ []) (round_body h i).corners (omega arith) (
+      lies (4 * h) (4 * i) 0 (omega arith) (omega arith) (omega arith),
+      (
+        lies (4 * h) (4 * i) 4 (omega arith) (omega arith) (omega arith),
+        (
+          lies (4 * h) (4 * h) 4 (omega arith) (omega arith) (omega arith),
+          (
+            lies (4 * h) (4 * h + 2) 2 (omega arith) (omega arith) (omega arith),
+            (lies (4 * h) (4 * (i + 1)) 0 (omega arith) (omega arith) (omega arith), (lies (4 * h) (4 * i + 2) 2 (omega arith) (omega arith) (omega arith), (lies (4 * h) (4 * i) 2 (omega arith) (omega arith) (omega arith), tt))),
+          ),
+        ),
+      ),
+    )
     (round_good h i next)

@@ -1,9 +1,9 @@
 -- The border of the strip: its left end, then its bottom and top edges by column, and its right end. It has
 -- the open edges of the base, and so of every frame.
-use Rattle.std.proofs.Common.{◌≡◌, ℕ, zero, suc, ◌+◌, ◌-◌, ◌*◌, ◌<◌, ◌≤◌, Bool, true, false, ◌&&◌, ◌||◌, cond, List, [], ◌∷◌, ◌++◌, length, map, ℤ, pos, refl, sym, ap, subst, ◌∙◌, arith}
+use Rattle.std.proofs.Common.{◌≡◌, ℕ, zero, suc, ◌+◌, ◌-◌, ◌*◌, ◌<◌, ◌≤◌, Bool, true, false, ◌&&◌, ◌||◌, List, [], ◌∷◌, length, map, pos, refl, sym, ap, subst, ◌∙◌, arith}
 use Rattle.std.specs.Prelude.{◌-ℤ◌, int_lt}
 use Rattle.std.specs.Ordering.{int_eq}
-use Rattle.std.specs.List.{AllByRecursion, Contains, flat_map, range_with_len}
+use Rattle.std.specs.List.{AllByRecursion, flat_map, range_with_len}
 use Rattle.std.proofs.lemmas.Int.{ints}
 use Rattle.std.proofs.lemmas.Bool.{and_parts, and_from, or_left, or_right, false_from_ne_true}
 use Rattle.std.proofs.lemmas.List.{length-map}
@@ -12,7 +12,7 @@ use Rattle.grid_vertex.specs.declared.triangles.Triangle.{Triangle}
 use Rattle.grid_vertex.specs.Points.{is_same_point}
 use Rattle.file_model.specs.Lists.{triangle_of, triangles_from, point_at_place}
 use Rattle.file_model.specs.Rules.{is_version}
-use Rattle.mesh_model.specs.Nets.{one_if, is_edge, times, net, is_before, Pair, is_forward, is_pair_before, Ascend, AreOpen, HasOpenPairs}
+use Rattle.mesh_model.specs.Nets.{one_if, is_edge, net, is_before, Pair, is_forward, is_pair_before, Ascend, AreOpen, HasOpenPairs}
 use Rattle.mesh_model.specs.Orders.{before_one_way, point_exact}
 use Rattle.mesh_model.specs.Frames.{IsCut}
 use Rattle.mesh_model.specs.Accepted.{triangles_out_of}
@@ -102,9 +102,13 @@ ascend_border n (suc m) some =
     let first = pair (low 0) (high 0) in
     let second = pair (low 0) (low (0 + 1)) in
     let third = pair (high 0) (high (0 + 1)) in
-    ascend_more first (second ∷ third ∷ rest)
-    (or_right (is_before (low 0) (low 0)) (is_same_point (low 0) (low 0) && is_before (high 0) (low (0 + 1))) (by_x 0 4 4 0 (omega arith)), (by_first first third (by_y 0 0 4 (omega arith)),
-      each_before first 1 rest (before_start first 0 0 1 refl (omega arith)) (starts m (0 + 1) 1 (omega arith))))
+    ascend_more first (second ∷ third ∷ rest) (
+      or_right (is_before (low 0) (low 0)) (is_same_point (low 0) (low 0) && is_before (high 0) (low (0 + 1))) (by_x 0 4 4 0 (omega arith)),
+      (
+        by_first first third (by_y 0 0 4 (omega arith)),
+        each_before first 1 rest (before_start first 0 0 1 refl (omega arith)) (starts m (0 + 1) 1 (omega arith)),
+      ),
+    )
     (ascend_from (suc m) 0)
 
 forward_from : (n a : ℕ) → AllByRecursion (λ p. is_forward p ≡ true) (pairs_of (border_from n a))
@@ -118,10 +122,10 @@ forward_from (suc n) a = (by_x (4 * a) 0 (4 * (a + 1)) 0 (omega arith), (by_x (4
 backward_none : (a b p q : Point) → is_before a b ≡ true → is_before p q ≡ true → seen a b q p ≡ 0
 unfolding seen
 backward_none a b p q ahead forward = ap one_if (false_from_ne_true (is_edge a b q p) (λ h.
-      let both = and_parts (is_same_point q a) (is_same_point p b) h in
-      let first : q ≡ a = point_exact q a both.0 in
-      let last : p ≡ b = point_exact p b both.1 in
-      before_one_way p q forward (subst (λ (r : Point). is_before q r ≡ true) (sym last) (subst (λ (r : Point). is_before r b ≡ true) (sym first) ahead))))
+    let both = and_parts (is_same_point q a) (is_same_point p b) h in
+    let first : q ≡ a = point_exact q a both.0 in
+    let last : p ≡ b = point_exact p b both.1 in
+    before_one_way p q forward (subst (λ (r : Point). is_before q r ≡ true) (sym last) (subst (λ (r : Point). is_before r b ≡ true) (sym first) ahead))))
 
 -- one more square on the left: its right side goes, and its bottom, top and left side come
 more_net : (a b c d x y : Point) (ts : List Triangle) (u v : ℕ) → seen x y b a ≡ 0 → seen x y c b ≡ 0 → seen x y c d ≡ 0 → seen x y d a ≡ 0
@@ -166,7 +170,7 @@ every_frame_open version c in_set known some few cut =
 pub frame_has_open : (version c : ℕ) (in_set : ℕ → Bool) → is_version version ≡ true → 2 ≤ c → c ≤ 16384 → IsCut (fields_of (strip_patches c)) 0 in_set
     → HasOpenPairs (frame_of_set (strip_file version c) in_set) (2 * c + 2)
 frame_has_open version c in_set known some few cut = record {
-    pairs = pairs_of (strip_border c);
-    are_open = every_frame_open version c in_set known some few cut;
-    number = length-map (strip_border c) (λ (b : Border). b.pair) ∙ (let n : length (border_from c 0) ≡ 2 * c + 1 = border_length c 0 in omega arith);
-  }
+  pairs = pairs_of (strip_border c);
+  are_open = every_frame_open version c in_set known some few cut;
+  number = length-map (strip_border c) (λ (b : Border). b.pair) ∙ (let n : length (border_from c 0) ≡ 2 * c + 1 = border_length c 0 in omega arith);
+}

@@ -53,7 +53,7 @@ count_ones (p ∷ ps) = let rest : length ps ≡ sum_by (λ (p : StripPatch). 1)
 pub patch_count : (c : ℕ) → 1 ≤ c → length (strip_patches c) + 1 ≡ 4 * c
 patch_count c some =
     let count : length (strip_patches c) ≡ c * 1 + c * 2 + (c - 1) * 1 =
-      count_ones (strip_patches c) ∙ sum_of_strip (λ (p : StripPatch). 1) c 1 2 1 (record { squares = λ i. refl; halves_of = λ i. refl; rounds = λ j. refl }) in
+    count_ones (strip_patches c) ∙ sum_of_strip (λ (p : StripPatch). 1) c 1 2 1 (record { squares = λ i. refl; halves_of = λ i. refl; rounds = λ j. refl }) in
     omega arith
 
 pub field_count : (c : ℕ) → length (fields_of (strip_patches c)) ≡ length (strip_patches c)
@@ -66,8 +66,8 @@ sum_of_fields w (p ∷ ps) = sum_by-cons w p.field (fields_of ps) ∙ ap (λ n. 
 pub triangle_count : (c : ℕ) → 1 ≤ c → triangles_in_all (fields_of (strip_patches c)) + 6 ≡ 12 * c
 triangle_count c some =
     let count : triangles_in_all (fields_of (strip_patches c)) ≡ c * 2 + c * 4 + (c - 1) * 6 =
-      sum_of_fields (λ (f : PatchField). f.triangles) (strip_patches c)
-      ∙ sum_of_strip (λ (p : StripPatch). p.field.triangles) c 2 4 6 (record { squares = λ i. refl; halves_of = λ i. refl; rounds = λ j. refl }) in
+    sum_of_fields (λ (f : PatchField). f.triangles) (strip_patches c)
+    ∙ sum_of_strip (λ (p : StripPatch). p.field.triangles) c 2 4 6 (record { squares = λ i. refl; halves_of = λ i. refl; rounds = λ j. refl }) in
     omega arith
 
 -- ---- bytes of bodies
@@ -88,11 +88,11 @@ weighs_2 c = record { squares = λ i. refl; halves_of = λ i. refl; rounds = λ 
 pub bodies_size_1 : (c : ℕ) → 1 ≤ c → bodies_size 1 (fields_of (strip_patches c)) + 120 ≡ 300 * c
 bodies_size_1 c some =
     let size : bodies_size 1 (fields_of (strip_patches c)) ≡ c * 60 + c * 120 + (c - 1) * 120 =
-      size_of_fields 1 (strip_patches c) ∙ sum_of_strip (λ (p : StripPatch). body_size 1 p.field) c 60 120 120 (weighs_1 c) in
+    size_of_fields 1 (strip_patches c) ∙ sum_of_strip (λ (p : StripPatch). body_size 1 p.field) c 60 120 120 (weighs_1 c) in
     omega arith
 
 pub bodies_size_2 : (c : ℕ) → 1 ≤ c → bodies_size 2 (fields_of (strip_patches c)) + 90 ≡ 234 * c
 bodies_size_2 c some =
     let size : bodies_size 2 (fields_of (strip_patches c)) ≡ c * 48 + c * 96 + (c - 1) * 90 =
-      size_of_fields 2 (strip_patches c) ∙ sum_of_strip (λ (p : StripPatch). body_size 2 p.field) c 48 96 90 (weighs_2 c) in
+    size_of_fields 2 (strip_patches c) ∙ sum_of_strip (λ (p : StripPatch). body_size 2 p.field) c 48 96 90 (weighs_2 c) in
     omega arith

@@ -1,12 +1,8 @@
 -- Two frames of the strip: the base, and that of all nodes but the sink.
-use Rattle.std.proofs.Common.{◌≡◌, ℕ, zero, suc, ◌+◌, ◌-◌, ◌*◌, ◌<◌, ◌≤◌, Bool, true, false, not, ◌&&◌, cond, eqb, ltb, List, [], ◌∷◌, ◌++◌, length, map, Some, refl, sym, ap, subst, ◌∙◌, arith, append-nil, length-append, inl, inr}
-use Rattle.std.specs.Prelude.{slice_get}
-use Rattle.std.specs.List.{AllByRecursion, list_any, flat_map, range_with_len, sum_by}
-use Rattle.std.proofs.lemmas.Bool.{cases_eq, cases_lt, eq-eqb, ne_eqb, eqb-false, ltb-true, lt-ltb, le-ltb, and_from, and_left, and_right, not_from_true, not_from_false, true_from_ne_false}
-use Rattle.std.proofs.lemmas.List.Concat.{flat_map_single, length-flat_map}
+use Rattle.std.proofs.Common.{◌≡◌, ℕ, zero, suc, ◌+◌, ◌-◌, ◌*◌, ◌<◌, ◌≤◌, Bool, true, false, not, cond, ltb, List, [], ◌∷◌, ◌++◌, length, map, refl, sym, ap, ◌∙◌, arith, append-nil, length-append, inl, inr}
+use Rattle.std.specs.List.{AllByRecursion, list_any, flat_map, range_with_len}
+use Rattle.std.proofs.lemmas.Bool.{cases_eq, cases_lt, ne_eqb, eqb-false, ltb-true, lt-ltb, le-ltb, and_from, and_right, not_from_true, not_from_false, true_from_ne_false}
 use Rattle.std.proofs.lemmas.List.FromFn.{length-map-range_with_len}
-use Rattle.std.proofs.lemmas.List.Sums.{sum_by-cons}
-use Rattle.std.proofs.lemmas.Grind.{flat_map-append}
 use Rattle.grid_vertex.specs.declared.triangles.Triangle.{Triangle}
 use Rattle.file_model.specs.declared.fields.PatchField.{PatchField}
 use Rattle.file_model.specs.Lists.{triangles_from}
@@ -19,7 +15,7 @@ use Rattle.frame_laws.specs.Bases.{base_patches, base_triangles}
 use Rattle.strip_laws.specs.Strip.{StripPatch, square_at, edge_at, square, left_half, right_half, halves, opened, strip_nodes, strip_patches, fields_of, bodies_of, strip_file}
 use Rattle.strip_laws.specs.Kinds.{EachKind, each_field, kinds_of_fields}
 use Rattle.strip_laws.specs.Picks.{given, given_some, given_none, own, chosen_given, flat_nested, parts_by_kind, none_from, ends_from}
-use Rattle.strip_laws.specs.StripGraph.{edge_is, edge_above, one_root}
+use Rattle.strip_laws.specs.StripGraph.{edge_is, one_root}
 use Rattle.strip_laws.specs.StripNodes.{node_count}
 
 -- ---- chosen patches
@@ -68,11 +64,11 @@ own_count f m each (suc n) a =
 pub base_chosen : (c : ℕ) → chosen (leads_from 0) (strip_patches c) ≡ map square (range_with_len 0 c)
 base_chosen c =
     parts_by_kind (given (leads_from 0) alone) c (map square (range_with_len 0 c)) [] []
-      (all_from (λ i. given (leads_from 0) alone (square i)) square c 0 (λ k from below. refl))
-      (none_from (λ k. flat_map (given (leads_from 0) alone) (halves c k)) c 0 (λ k from below.
-        let apart = ne_eqb (square_at k) 0 (λ e. absurd (omega arith)) in
-        λ t. given_none (leads_from 0) alone (left_half c k) apart t ++ (given_none (leads_from 0) alone (right_half c k) apart t ++ [])))
-      (none_from (λ j. given (leads_from 0) alone (opened c j)) (c - 1) 0 (λ j from below. given_none (leads_from 0) alone (opened c j) (ne_eqb (c + (j + 1)) 0 (λ e. absurd (omega arith)))))
+    (all_from (λ i. given (leads_from 0) alone (square i)) square c 0 (λ k from below. refl))
+    (none_from (λ k. flat_map (given (leads_from 0) alone) (halves c k)) c 0 (λ k from below.
+    let apart = ne_eqb (square_at k) 0 (λ e. absurd (omega arith)) in
+    λ t. given_none (leads_from 0) alone (left_half c k) apart t ++ (given_none (leads_from 0) alone (right_half c k) apart t ++ [])))
+    (none_from (λ j. given (leads_from 0) alone (opened c j)) (c - 1) 0 (λ j from below. given_none (leads_from 0) alone (opened c j) (ne_eqb (c + (j + 1)) 0 (λ e. absurd (omega arith)))))
     ∙ append-nil (map square (range_with_len 0 c))
 
 roots_of : (c : ℕ) → 1 ≤ c → roots (length (strip_nodes c)) (fields_of (strip_patches c)) ≡ 0 ∷ []
@@ -122,10 +118,10 @@ tails_inner c = each_field (λ f. f.tail < 2 * c) c (record { squares = λ i les
 
 pub inner_is_cut : (c : ℕ) → 1 ≤ c → IsCut (fields_of (strip_patches c)) 0 (all_inner c)
 inner_is_cut c some = record {
-    has_root = lt-ltb 0 (2 * c) (omega arith);
-    no_sink = λ v at. inner_is_no_sink c v some (ltb-true v (2 * c) at);
-    has_parents = λ p f here _. lt-ltb f.tail (2 * c) (each_at (λ f. f.tail < 2 * c) (fields_of (strip_patches c)) p f here (tails_inner c));
-  }
+  has_root = lt-ltb 0 (2 * c) (omega arith);
+  no_sink = λ v at. inner_is_no_sink c v some (ltb-true v (2 * c) at);
+  has_parents = λ p f here _. lt-ltb f.tail (2 * c) (each_at (λ f. f.tail < 2 * c) (fields_of (strip_patches c)) p f here (tails_inner c));
+}
 
 -- a patch to an inner node stays inside, and one from an inner node to the sink leads out
 stays : (c : ℕ) (f : PatchField) → f.head < 2 * c → leads_out (all_inner c) f ≡ false
@@ -148,15 +144,15 @@ pub inner_chosen : (c : ℕ) → 2 ≤ c → chosen (leads_out (all_inner c)) (s
 inner_chosen c some =
     let after : c - 1 + 1 ≡ c = omega arith in
     parts_by_kind (given (leads_out (all_inner c)) alone) c [] (left_half c 0 ∷ right_half c (c - 1) ∷ []) (map (opened c) (range_with_len 0 (c - 1)))
-      (none_from (λ k. given (leads_out (all_inner c)) alone (square k)) c 0 (λ k from below. given_none (leads_out (all_inner c)) alone (square k) (stays c (square k).field (omega arith))))
-      (ends_from (λ k. flat_map (given (leads_out (all_inner c)) alone) (halves c k)) c 0 (c - 1) (omega arith) (omega arith)
-        (λ k from below apart apart' t. given_none (leads_out (all_inner c)) alone (left_half c k) (stays c (left_half c k).field (edge_inner c k (omega arith) (omega arith))) t
-          ++ (given_none (leads_out (all_inner c)) alone (right_half c k) (stays c (right_half c k).field (edge_inner c (k + 1) (omega arith) (omega arith))) t ++ []))
-       ∙ (λ t. (given_some (leads_out (all_inner c)) alone (left_half c 0) (leaves c (left_half c 0).field (omega arith) refl) t
-          ++ (given_none (leads_out (all_inner c)) alone (right_half c 0) (stays c (right_half c 0).field (edge_inner c (0 + 1) (omega arith) (omega arith))) t ++ []))
-        ++ (given_none (leads_out (all_inner c)) alone (left_half c (c - 1)) (stays c (left_half c (c - 1)).field (edge_inner c (c - 1) (omega arith) (omega arith))) t
-          ++ (given_some (leads_out (all_inner c)) alone (right_half c (c - 1)) (leaves c (right_half c (c - 1)).field (omega arith) (ap (λ k. edge_at c k) after ∙ edge_last c (omega arith))) t ++ []))))
-      (all_from (λ j. given (leads_out (all_inner c)) alone (opened c j)) (opened c) (c - 1) 0 (λ j from below. given_some (leads_out (all_inner c)) alone (opened c j) (leaves c (opened c j).field (omega arith) refl)))
+    (none_from (λ k. given (leads_out (all_inner c)) alone (square k)) c 0 (λ k from below. given_none (leads_out (all_inner c)) alone (square k) (stays c (square k).field (omega arith))))
+    (ends_from (λ k. flat_map (given (leads_out (all_inner c)) alone) (halves c k)) c 0 (c - 1) (omega arith) (omega arith)
+    (λ k from below apart apart' t. given_none (leads_out (all_inner c)) alone (left_half c k) (stays c (left_half c k).field (edge_inner c k (omega arith) (omega arith))) t
+    ++ (given_none (leads_out (all_inner c)) alone (right_half c k) (stays c (right_half c k).field (edge_inner c (k + 1) (omega arith) (omega arith))) t ++ []))
+    ∙ (λ t. (given_some (leads_out (all_inner c)) alone (left_half c 0) (leaves c (left_half c 0).field (omega arith) refl) t
+    ++ (given_none (leads_out (all_inner c)) alone (right_half c 0) (stays c (right_half c 0).field (edge_inner c (0 + 1) (omega arith) (omega arith))) t ++ []))
+    ++ (given_none (leads_out (all_inner c)) alone (left_half c (c - 1)) (stays c (left_half c (c - 1)).field (edge_inner c (c - 1) (omega arith) (omega arith))) t
+    ++ (given_some (leads_out (all_inner c)) alone (right_half c (c - 1)) (leaves c (right_half c (c - 1)).field (omega arith) (ap (λ k. edge_at c k) after ∙ edge_last c (omega arith))) t ++ []))))
+    (all_from (λ j. given (leads_out (all_inner c)) alone (opened c j)) (opened c) (c - 1) 0 (λ j from below. given_some (leads_out (all_inner c)) alone (opened c j) (leaves c (opened c j).field (omega arith) refl)))
 
 pub inner_patch_count : (c : ℕ) → 2 ≤ c → length (frame_patches (all_inner c) (fields_of (strip_patches c))) ≡ c + 1
 inner_patch_count c some =
@@ -175,6 +171,6 @@ pub inner_triangle_count : (version c : ℕ) → 2 ≤ c → length (frame_of_se
 inner_triangle_count version c some =
     let rounds : length (flat_map own (map (opened c) (range_with_len 0 (c - 1)))) ≡ (c - 1) * 6 = own_count (opened c) 6 (round_triangles c) (c - 1) 0 in
     let all : length (frame_of_set (strip_file version c) (all_inner c)) ≡ 4 + length (flat_map own (map (opened c) (range_with_len 0 (c - 1)))) =
-      ap length (triangles_chosen (leads_out (all_inner c)) (strip_patches c) ∙ ap (λ ps. flat_map own ps) (inner_chosen c some))
-      ∙ ends_triangles c 0 (c - 1) (flat_map own (map (opened c) (range_with_len 0 (c - 1)))) in
+    ap length (triangles_chosen (leads_out (all_inner c)) (strip_patches c) ∙ ap (λ ps. flat_map own ps) (inner_chosen c some))
+    ∙ ends_triangles c 0 (c - 1) (flat_map own (map (opened c) (range_with_len 0 (c - 1)))) in
     omega arith

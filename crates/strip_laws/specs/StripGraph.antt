@@ -1,12 +1,12 @@
 -- The graph of the strip: its root, its sink, and how far each node is from the root at most.
-use Rattle.std.proofs.Common.{◌≡◌, ℕ, zero, suc, ◌+◌, ◌-◌, ◌*◌, ◌<◌, ◌≤◌, Bool, true, false, not, cond, eqb, ltb, leb, List, [], ◌∷◌, length, Some, refl, sym, ap, subst, ◌∙◌, arith, inl, inr}
+use Rattle.std.proofs.Common.{◌≡◌, ℕ, zero, suc, ◌+◌, ◌-◌, ◌*◌, ◌<◌, ◌≤◌, Bool, true, false, cond, eqb, ltb, leb, List, [], ◌∷◌, refl, sym, ap, ◌∙◌, arith, inl, inr}
 use Rattle.std.specs.List.{AllByRecursion, list_any}
 use Rattle.std.proofs.lemmas.Bool.{cases_eq, cases_lt, eq-eqb, ne_eqb, eqb-false, lt-ltb, le-ltb, le-leb, lt-leb, or_from, not_from_false, not_from_true, true_from_ne_false, cond-true, cond-false}
 use Rattle.file_model.specs.declared.fields.PatchField.{PatchField}
 use Rattle.mesh_model.specs.Graph.{leads_to, leads_from, is_root, is_sink, roots, numbers_from}
-use Rattle.mesh_model.specs.Walks.{EndsAt, IsBound, IsGrounded}
+use Rattle.mesh_model.specs.Walks.{IsBound, IsGrounded}
 use Rattle.frame_laws.specs.Each.{each_fails, each_at}
-use Rattle.strip_laws.specs.Strip.{StripPatch, square_at, edge_at, square, left_half, right_half, opened, strip_patches, fields_of}
+use Rattle.strip_laws.specs.Strip.{square_at, edge_at, strip_patches, fields_of}
 use Rattle.strip_laws.specs.Kinds.{EachKind, each_field, kinds_of_fields}
 
 -- ---- the nodes of edges
@@ -150,11 +150,11 @@ height_last c v some last =
 
 pub rises : (c : ℕ) → 0 < c → AllByRecursion (λ f. height c f.tail < height c f.head) (fields_of (strip_patches c))
 rises c some = each_field (λ f. height c f.tail < height c f.head) c (record {
-      squares = λ i less. omega (arith, height_first c, height_square c (square_at i) (omega arith) (omega arith));
-      lefts = λ i less. omega (arith, height_square c (square_at i) (omega arith) (omega arith), height_above c (edge_at c i) (edge_above c i some));
-      rights = λ i less. omega (arith, height_square c (square_at i) (omega arith) (omega arith), height_above c (edge_at c (i + 1)) (edge_above c (i + 1) some));
-      rounds = λ j less. omega (arith, height_edge c (c + (j + 1)) (omega arith) (omega arith), height_last c (2 * c) some refl);
-    })
+  squares = λ i less. omega (arith, height_first c, height_square c (square_at i) (omega arith) (omega arith));
+  lefts = λ i less. omega (arith, height_square c (square_at i) (omega arith) (omega arith), height_above c (edge_at c i) (edge_above c i some));
+  rights = λ i less. omega (arith, height_square c (square_at i) (omega arith) (omega arith), height_above c (edge_at c (i + 1)) (edge_above c (i + 1) some));
+  rounds = λ j less. omega (arith, height_edge c (c + (j + 1)) (omega arith) (omega arith), height_last c (2 * c) some refl);
+})
 
 pub all_grounded : (c : ℕ) → 0 < c → (v : ℕ) → IsGrounded (fields_of (strip_patches c)) v
 all_grounded c some v = (height c v, bounded_by (height c) (fields_of (strip_patches c)) (rises c some) v)

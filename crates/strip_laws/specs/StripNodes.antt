@@ -1,12 +1,11 @@
 -- The nodes of the strip by their numbers, and how the errors and balls of its arcs are nested.
-use Rattle.std.proofs.Common.{◌≡◌, ℕ, zero, suc, ◌+◌, ◌-◌, ◌*◌, ◌%◌, ◌<◌, ◌≤◌, Bool, true, false, ◌&&◌, ◌||◌, cond, eqb, ltb, leb, List, [], ◌∷◌, ◌++◌, length, map, Option, Some, None, refl, sym, ap, subst, ◌∙◌, arith, length-append, inl, inr}
-use Rattle.std.specs.Prelude.{slice_get, IsTrue, ◌==◌, nat_le, pos, ◌-ℤ◌, unsigned_abs}
-use Rattle.std.specs.List.{AllByRecursion, range_with_len}
-use Rattle.std.proofs.lemmas.Bool.{cases_eq, eq-eqb, le-leb, and_from, or_left, or_right, cond-true, cond-false}
+use Rattle.std.proofs.Common.{◌≡◌, ℕ, zero, suc, ◌+◌, ◌-◌, ◌*◌, ◌%◌, ◌<◌, ◌≤◌, Bool, true, false, cond, eqb, leb, List, [], ◌∷◌, ◌++◌, length, map, Option, Some, None, refl, ap, ◌∙◌, arith, length-append, inl, inr}
+use Rattle.std.specs.Prelude.{slice_get, ◌==◌, pos, ◌-ℤ◌, unsigned_abs}
+use Rattle.std.specs.List.{range_with_len}
+use Rattle.std.proofs.lemmas.Bool.{cases_eq, eq-eqb, le-leb, and_from, or_left, or_right, cond-true}
 use Rattle.std.proofs.lemmas.Int.{ints}
 use Rattle.std.proofs.lemmas.Nat.{mul-le}
 use Rattle.std.proofs.lemmas.List.FromFn.{length-map-range_with_len}
-use Rattle.grid_vertex.specs.declared.points.Point.{Point}
 use Rattle.grid_vertex.specs.Points.{gap, square as squared, distance_squared_of}
 use Rattle.grid_vertex.specs.Balls.{is_ball_within}
 use Rattle.file_model.specs.declared.fields.Node.{Node}
@@ -14,8 +13,8 @@ use Rattle.file_model.specs.declared.fields.PatchField.{PatchField}
 use Rattle.mesh_model.specs.Graph.{is_sink}
 use Rattle.mesh_model.specs.Accepted.{nested_by, is_nested, AllNested, has_no_more_error, has_ball_within}
 use Rattle.frame_laws.specs.Each.{each_at}
-use Rattle.strip_laws.specs.Strip.{StripPatch, flat, middle, halfway, node_at, root_node, square_node, edge_node, sink_node, strip_nodes, square_at, edge_at, strip_patches, fields_of, strip_file}
-use Rattle.strip_laws.specs.Kinds.{EachKind, each_field}
+use Rattle.strip_laws.specs.Strip.{flat, node_at, root_node, square_node, edge_node, sink_node, strip_nodes, square_at, edge_at, strip_patches, fields_of, strip_file}
+use Rattle.strip_laws.specs.Kinds.{each_field}
 use Rattle.strip_laws.specs.StripGraph.{edge_is, last_is_sink}
 
 -- ---- numbers
@@ -42,7 +41,7 @@ node_count c some =
     let squares = map square_node (range_with_len 0 c) in
     let edges = map edge_node (range_with_len 1 (c - 1)) in
     let whole : length (squares ++ (edges ++ sink_node ∷ [])) ≡ c + (c - 1 + 1) =
-      length-append squares (edges ++ sink_node ∷ []) ∙ (λ t. length-map-range_with_len square_node 0 c t + (length-append edges (sink_node ∷ []) ∙ (λ s. length-map-range_with_len edge_node 1 (c - 1) s + 1)) t) in
+    length-append squares (edges ++ sink_node ∷ []) ∙ (λ t. length-map-range_with_len square_node 0 c t + (length-append edges (sink_node ∷ []) ∙ (λ s. length-map-range_with_len edge_node 1 (c - 1) s + 1)) t) in
     omega arith
 
 pub node_of_square : (c i : ℕ) → i < c → slice_get (strip_nodes c) (square_at i) ≡ Some (square_node i)
@@ -117,10 +116,10 @@ square_error i = elim (i % 2 == 0) as (λ t. (cond t 64 48 ≤ 64) × (48 ≤ co
 
 pub errors_nested : (version c : ℕ) → AllNested has_no_more_error (strip_file version c).index
 errors_nested version c = all_nested has_no_more_error version c (record {
-    squares = λ i less. le-leb (square_node i).error 128 (omega (arith, (square_error i).0));
-    lefts = λ i some less. le-leb 16 (square_node i).error (omega (arith, (square_error i).1));
-    rights = λ i less. le-leb 16 (square_node i).error (omega (arith, (square_error i).1));
-  })
+  squares = λ i less. le-leb (square_node i).error 128 (omega (arith, (square_error i).0));
+  lefts = λ i some less. le-leb 16 (square_node i).error (omega (arith, (square_error i).1));
+  rights = λ i less. le-leb 16 (square_node i).error (omega (arith, (square_error i).1));
+})
 
 -- ---- balls
 
@@ -138,7 +137,7 @@ ball_within x x' r s d e e' left right room =
 
 pub balls_nested : (version c : ℕ) → AllNested has_ball_within (strip_file version c).index
 balls_nested version c = all_nested has_ball_within version c (record {
-    squares = λ i less. ball_within (2 * c) (4 * i + 2) (2 * c + 5) 7 (2 * c - 2) 128 (square_node i).error (omega arith) (omega arith) (omega arith);
-    lefts = λ i some less. ball_within (4 * i + 2) (4 * i) 7 5 2 (square_node i).error 16 (omega arith) (omega arith) (omega arith);
-    rights = λ i less. ball_within (4 * i + 2) (4 * (i + 1)) 7 5 2 (square_node i).error 16 (omega arith) (omega arith) (omega arith);
-  })
+  squares = λ i less. ball_within (2 * c) (4 * i + 2) (2 * c + 5) 7 (2 * c - 2) 128 (square_node i).error (omega arith) (omega arith) (omega arith);
+  lefts = λ i some less. ball_within (4 * i + 2) (4 * i) 7 5 2 (square_node i).error 16 (omega arith) (omega arith) (omega arith);
+  rights = λ i less. ball_within (4 * i + 2) (4 * (i + 1)) 7 5 2 (square_node i).error 16 (omega arith) (omega arith) (omega arith);
+})

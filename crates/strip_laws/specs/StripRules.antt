@@ -1,20 +1,17 @@
 -- The strip is a patch file in either version, and its mesh is accepted.
-use Rattle.std.proofs.Common.{◌≡◌, ℕ, zero, suc, ◌+◌, ◌-◌, ◌*◌, ◌<◌, ◌≤◌, Bool, true, false, not, ◌&&◌, ◌||◌, cond, eqb, ltb, leb, List, [], ◌∷◌, ◌++◌, length, map, pos, refl, sym, ap, subst, ◌∙◌, arith, length-append, inl, inr}
-use Rattle.std.specs.Prelude.{◌==◌, unsigned_abs}
-use Rattle.std.specs.List.{AllByRecursion, list_all, flat_map, range_with_len}
+use Rattle.std.proofs.Common.{◌≡◌, ℕ, ◌+◌, ◌-◌, ◌*◌, ◌<◌, ◌≤◌, Bool, true, not, ◌&&◌, ◌||◌, ltb, leb, List, [], ◌∷◌, ◌++◌, length, map, refl, ap, subst, ◌∙◌, arith, inl, inr}
+use Rattle.std.specs.List.{AllByRecursion, range_with_len}
 use Rattle.std.proofs.lemmas.Bool.{cases_eq, cases_lt, lt-ltb, le-leb, and_from, or_left, or_right, not_from_true}
 use Rattle.grid_vertex.specs.Points.{is_in_grid}
-use Rattle.file_model.specs.declared.fields.Node.{Node}
 use Rattle.file_model.specs.declared.fields.PatchField.{PatchField}
-use Rattle.file_model.specs.Lists.{BodyLists, IndexLists}
 use Rattle.file_model.specs.Spelling.{file_text}
 use Rattle.file_model.specs.Reading.{file_size}
 use Rattle.file_laws.specs.Files.{length-file_text}
 use Rattle.file_model.specs.Rules.{is_version, is_node, has_ends, has_counts, is_field, fits_field, is_body, are_bodies, IsIndex, IsPatchFile}
 use Rattle.mesh_model.specs.Graph.{is_root, is_sink}
-use Rattle.mesh_model.specs.Accepted.{is_inner, KeepsNets, IsNestedGraph, IsAccepted}
-use Rattle.strip_laws.specs.Strip.{StripPatch, flat, node_at, root_node, square_node, edge_node, sink_node, strip_nodes, square_at, edge_at, square, left_half, right_half, halves, opened, strip_patches, fields_of, bodies_of, strip_file}
-use Rattle.strip_laws.specs.Kinds.{EachKind, each_append, each_map, each_in_range, each_below, each_patch, each_field}
+use Rattle.mesh_model.specs.Accepted.{KeepsNets, IsAccepted}
+use Rattle.strip_laws.specs.Strip.{StripPatch, flat, node_at, square_node, edge_node, sink_node, strip_nodes, square_at, edge_at, strip_patches, fields_of, bodies_of, strip_file}
+use Rattle.strip_laws.specs.Kinds.{each_append, each_map, each_in_range, each_below, each_patch, each_field}
 use Rattle.strip_laws.specs.StripCounts.{patch_count, field_count, bodies_size_1, bodies_size_2}
 use Rattle.strip_laws.specs.StripGraph.{edge_within, first_is_root, last_is_sink, one_root, all_grounded}
 use Rattle.strip_laws.specs.NodeNets.{square_keeps, edge_keeps}
@@ -33,15 +30,16 @@ node_by x y r e x_in y_in r_in e_in =
 
 each_node : (c : ℕ) → 1 ≤ c → c ≤ 16384 → AllByRecursion (λ n. is_node n ≡ true) (strip_nodes c)
 unfolding strip_nodes
-each_node c some few =
-    (node_by (2 * c) 2 (2 * c + 5) 128 (omega arith) (omega arith) (omega arith) (omega arith),
-    each_append (λ n. is_node n ≡ true) (map square_node (range_with_len 0 c)) (map edge_node (range_with_len 1 (c - 1)) ++ sink_node ∷ [])
-    (each_map (λ n. is_node n ≡ true) square_node (range_with_len 0 c) (each_below (λ i. is_node (square_node i) ≡ true) c (λ i less.
+each_node c some few = (
+  node_by (2 * c) 2 (2 * c + 5) 128 (omega arith) (omega arith) (omega arith) (omega arith),
+  each_append (λ n. is_node n ≡ true) (map square_node (range_with_len 0 c)) (map edge_node (range_with_len 1 (c - 1)) ++ sink_node ∷ [])
+      (each_map (λ n. is_node n ≡ true) square_node (range_with_len 0 c) (each_below (λ i. is_node (square_node i) ≡ true) c (λ i less.
       node_by (4 * i + 2) 2 7 (square_node i).error (omega arith) (omega arith) (omega arith) (omega (arith, (square_error i).0)))))
-    (each_append (λ n. is_node n ≡ true) (map edge_node (range_with_len 1 (c - 1))) (sink_node ∷ [])
-    (each_map (λ n. is_node n ≡ true) edge_node (range_with_len 1 (c - 1)) (each_in_range (λ k. is_node (edge_node k) ≡ true) (c - 1) 1 (λ k less.
+      (each_append (λ n. is_node n ≡ true) (map edge_node (range_with_len 1 (c - 1))) (sink_node ∷ [])
+      (each_map (λ n. is_node n ≡ true) edge_node (range_with_len 1 (c - 1)) (each_in_range (λ k. is_node (edge_node k) ≡ true) (c - 1) 1 (λ k less.
       node_by (4 * (1 + k)) 2 5 16 (omega arith) (omega arith) (omega arith) (omega arith))))
-    (refl, tt)))
+      (refl, tt)),
+)
 
 field_by : (nodes tail head points triangles : ℕ) → tail < nodes → head < nodes → has_counts (record { tail = tail; head = head; points = points; triangles = triangles }) ≡ true
     → is_field nodes (record { tail = tail; head = head; points = points; triangles = triangles }) ≡ true
@@ -51,11 +49,11 @@ field_by nodes tail head points triangles from to counts =
 
 fields_good : (nodes c : ℕ) → 1 ≤ c → nodes ≡ 2 * c + 1 → AllByRecursion (λ f. is_field nodes f ≡ true) (fields_of (strip_patches c))
 fields_good nodes c some many = each_field (λ f. is_field nodes f ≡ true) c (record {
-    squares = λ i less. field_by nodes 0 (square_at i) 4 2 (omega arith) (omega arith) refl;
-    lefts = λ i less. field_by nodes (square_at i) (edge_at c i) 4 2 (omega arith) (omega (arith, edge_within c i (omega arith))) refl;
-    rights = λ i less. field_by nodes (square_at i) (edge_at c (i + 1)) 4 2 (omega arith) (omega (arith, edge_within c (i + 1) (omega arith))) refl;
-    rounds = λ j less. field_by nodes (c + (j + 1)) (2 * c) 7 6 (omega arith) (omega arith) refl;
-  })
+  squares = λ i less. field_by nodes 0 (square_at i) 4 2 (omega arith) (omega arith) refl;
+  lefts = λ i less. field_by nodes (square_at i) (edge_at c i) 4 2 (omega arith) (omega (arith, edge_within c i (omega arith))) refl;
+  rights = λ i less. field_by nodes (square_at i) (edge_at c (i + 1)) 4 2 (omega arith) (omega (arith, edge_within c (i + 1) (omega arith))) refl;
+  rounds = λ j less. field_by nodes (c + (j + 1)) (2 * c) 7 6 (omega arith) (omega arith) refl;
+})
 
 between : (low high n : ℕ) → low ≤ n → n ≤ high → (leb low n && leb n high) ≡ true
 between low high n above below = and_from (leb low n) (leb n high) (le-leb low n above) (le-leb n high below)
@@ -86,11 +84,11 @@ bodies_good version (p ∷ ps) h = and_from (is_good version p) (are_bodies vers
 
 strip_bodies : (version c : ℕ) → c ≤ 16384 → are_bodies version (fields_of (strip_patches c)) (bodies_of (strip_patches c)) ≡ true
 strip_bodies version c few = bodies_good version (strip_patches c) (each_patch (λ p. is_good version p ≡ true) c (record {
-    squares = λ i less. square_is_body version i (omega arith);
-    lefts = λ i less. left_is_body version i (omega arith);
-    rights = λ i less. right_is_body version i (omega arith);
-    rounds = λ j less. round_is_body version j (j + 1) refl (omega arith);
-  }))
+  squares = λ i less. square_is_body version i (omega arith);
+  lefts = λ i less. left_is_body version i (omega arith);
+  rights = λ i less. right_is_body version i (omega arith);
+  rounds = λ j less. round_is_body version j (j + 1) refl (omega arith);
+}))
 
 pub strip_is_file : (version c : ℕ) → is_version version ≡ true → 2 ≤ c → c ≤ 16384 → IsPatchFile (strip_file version c) (file_text (strip_file version c))
 strip_is_file version c known some few = record { index = strip_index version c known some few; bodies = strip_bodies version c few; text = refl }
