@@ -6,7 +6,7 @@ use Rattle.std.proofs.lemmas.Grind.{flat_map-append}
 use Rattle.std.proofs.lemmas.List.{map-append}
 use Rattle.std.proofs.lemmas.List.FromFn.{map-range_with_len_more}
 use Rattle.file_model.specs.declared.fields.Node.{Node}
-use Rattle.file_model.specs.Lists.{BodyLists, FileLists}
+use Rattle.file_model.specs.Lists.{FileLists}
 use Rattle.strip_laws.specs.Strip.{StripPatch, root_node, square_node, edge_node, sink_node, strip_nodes, square, halves, opened, strip_patches, fields_of, bodies_of, strip_file}
 use Rattle.patch_file.specs.PartsState.{no_parts}
 use Rattle.mesh_maker.specs.Parts.{with_nodes, with_patches}

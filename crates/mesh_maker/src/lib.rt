@@ -7,6 +7,8 @@ mod nodes;
 mod patches;
 mod points;
 mod strips;
+#[cfg(test)]
+mod tests;
 
 pub use strip_laws::MOST_COLUMNS;
 pub use strips::{strip, strip_as};

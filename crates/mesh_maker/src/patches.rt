@@ -62,7 +62,7 @@ fn add_patch(
     ensures { OnOk result
         (parts.new
         ≡ with_patches parts.old
-          (patch ends.tail ends.head (lists_with points.now corners.now) ∷ [])) }
+        (patch ends.tail ends.head (lists_with points.now corners.now) ∷ [])) }
 {
     let body = body_in(alloc, version, ends.patch, points, corners)?;
     let field = PatchField {
@@ -104,7 +104,14 @@ fn add_square(
         head: 1 + column,
     };
     let points = [low(column), low(column + 1), high(column + 1), high(column)];
-    add_patch(alloc, parts, version, ends, &points, &[[0, 1, 2], [0, 2, 3]])
+    add_patch(
+        alloc,
+        parts,
+        version,
+        ends,
+        &points,
+        &[[0, 1, 2], [0, 2, 3]],
+    )
 }
 
 /// Adds the triangles from a square's left and bottom to its middle.
@@ -127,7 +134,14 @@ fn add_left(
         head: edge_at(columns, column),
     };
     let points = [low(column), low(column + 1), high(column), middle(column)];
-    add_patch(alloc, parts, version, ends, &points, &[[2, 0, 3], [0, 1, 3]])
+    add_patch(
+        alloc,
+        parts,
+        version,
+        ends,
+        &points,
+        &[[2, 0, 3], [0, 1, 3]],
+    )
 }
 
 /// Adds those from its right and top.
@@ -149,8 +163,20 @@ fn add_right(
         tail: 1 + column,
         head: edge_at(columns, column + 1),
     };
-    let points = [low(column + 1), high(column + 1), high(column), middle(column)];
-    add_patch(alloc, parts, version, ends, &points, &[[0, 1, 3], [1, 2, 3]])
+    let points = [
+        low(column + 1),
+        high(column + 1),
+        high(column),
+        middle(column),
+    ];
+    add_patch(
+        alloc,
+        parts,
+        version,
+        ends,
+        &points,
+        &[[0, 1, 3], [1, 2, 3]],
+    )
 }
 
 /// Adds both halves of a square.
@@ -200,7 +226,14 @@ fn add_opened(
         middle(edge),
         halfway(edge),
     ];
-    let corners = [[0, 6, 3], [6, 1, 3], [1, 2, 3], [1, 6, 5], [6, 0, 5], [0, 4, 5]];
+    let corners = [
+        [0, 6, 3],
+        [6, 1, 3],
+        [1, 2, 3],
+        [1, 6, 5],
+        [6, 0, 5],
+        [0, 4, 5],
+    ];
     add_patch(alloc, parts, version, ends, &points, &corners)
 }
 

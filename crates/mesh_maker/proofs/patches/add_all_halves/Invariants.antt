@@ -1,4 +1,4 @@
-use Rattle.std.proofs.Common.{◌≡◌, ◌-◌, map}
+use Rattle.std.proofs.Common.{◌≡◌}
 use Rattle.std.specs.List.{flat_map, range_with_len}
 use Rattle.strip_laws.specs.Strip.{halves}
 use Rattle.mesh_maker.specs.Parts.{with_patches}

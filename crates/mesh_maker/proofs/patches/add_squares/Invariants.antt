@@ -1,5 +1,5 @@
-use Rattle.std.proofs.Common.{◌≡◌, ◌-◌, map}
-use Rattle.std.specs.List.{flat_map, range_with_len}
+use Rattle.std.proofs.Common.{◌≡◌, map}
+use Rattle.std.specs.List.{range_with_len}
 use Rattle.strip_laws.specs.Strip.{square}
 use Rattle.mesh_maker.specs.Parts.{with_patches}
 use Rattle.mesh_maker.proofs.patches.add_squares.Given as goal

@@ -1,4 +1,4 @@
-use Rattle.std.proofs.Common.{◌≡◌, sym, subst}
+use Rattle.std.proofs.Common.{sym, subst}
 use Rattle.file_model.specs.Lists.{FileLists}
 use Rattle.file_model.specs.Spelling.{file_text}
 use Rattle.file_model.specs.Rules.{IsPatchFile}
