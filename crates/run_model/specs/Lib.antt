@@ -16,3 +16,6 @@ pub mod RunTexts
 pub mod SessionReach
 pub mod LineLaws
 pub mod AnswerLaws
+pub mod PrintedFrames
+pub mod Kept
+pub mod KeptLaws
