@@ -19,3 +19,5 @@ pub mod AnswerLaws
 pub mod PrintedFrames
 pub mod Kept
 pub mod KeptLaws
+pub mod RunLaws
+pub mod BlankTiers
