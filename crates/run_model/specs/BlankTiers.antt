@@ -5,7 +5,8 @@ use Rattle.std.specs.Prelude.{slice_index_or, slice_set, nat_lt}
 use Rattle.std.specs.List.{count_by}
 use Rattle.std.specs.Option.{option_map, option_and_then}
 use Rattle.std.proofs.lemmas.Bool.{cond_both, cond-true, cond-false}
-use Rattle.std.proofs.lemmas.List.{map-set}
+use Rattle.std.proofs.lemmas.List.{map-set, length-replicate}
+use Rattle.std.proofs.lemmas.List.Sums.{sum_by-cons}
 use Rattle.file_model.specs.Lists.{SeenBody}
 use Rattle.tier_model.specs.declared.turns.Abort.{Abort}
 use Rattle.tier_model.specs.declared.turns.Abort.TheVariants as reasons
@@ -65,10 +66,15 @@ pub blank_load : (t : TierState) → load (blank t) ≡ load t
 unfolding blank
 blank_load t = ap (λ (marks : List Bool). load_of t.sizes (record { held = marks; coming = t.coming })) (blank_marks t.held)
 
+abbrev one_there : Option SeenBody → ℕ
+one_there o = cond (is_some o) 1 0
+
 pub blank_count : (bodies : List (Option SeenBody)) → count_by (λ o. is_some o) (blank_bodies bodies) ≡ count_by (λ o. is_some o) bodies
 blank_count [] = refl
-blank_count (None ∷ os) = blank_count os
-blank_count (Some body ∷ os) = ap suc (blank_count os)
+blank_count (o ∷ os) =
+    sum_by-cons one_there (option_map blank_body o) (blank_bodies os)
+    ∙ ap₂ (λ (there : Bool) (n : ℕ). cond there 1 0 + n) (still_there o) (blank_count os)
+    ∙ sym (sum_by-cons one_there o os)
 
 -- ---- candidate and victim
 
@@ -194,3 +200,24 @@ unfolding turn_of
 blank_turns board told t fetched uses answer after is =
     let o : Outcome = record { fetched = fetched; uses = uses } in
     ap blank_turn is ∙ sym (ap (λ (u : TierState). ranked_turn_of told u (blank_outcome o)) (blank_begun board t) ∙ blank_ranked told (begun board t) o)
+
+-- ---- twice is once
+
+blank_body_twice : (body : SeenBody) → blank_body (blank_body body) ≡ blank_body body
+blank_body_twice body = ap (λ (n : ℕ). record body { bytes = replicate n 0 }) (length-replicate (length body.bytes) 0)
+
+blank_option_twice : (o : Option SeenBody) → option_map blank_body (option_map blank_body o) ≡ option_map blank_body o
+blank_option_twice None = refl
+blank_option_twice (Some body) = ap (λ (b : SeenBody). Some b) (blank_body_twice body)
+
+blank_bodies_twice : (bodies : List (Option SeenBody)) → blank_bodies (blank_bodies bodies) ≡ blank_bodies bodies
+blank_bodies_twice [] = refl
+blank_bodies_twice (o ∷ os) = ap₂ (λ (b : Option SeenBody) (bs : List (Option SeenBody)). b ∷ bs) (blank_option_twice o) (blank_bodies_twice os)
+
+blank_twice : (t : TierState) → blank (blank t) ≡ blank t
+unfolding blank
+blank_twice t = ap₂ (λ (held came : List (Option SeenBody)). record t { held = held; came = came }) (blank_bodies_twice t.held) (blank_bodies_twice t.came)
+
+pub blank_tiers_twice : (tiers : List TierState) → map blank (map blank tiers) ≡ map blank tiers
+blank_tiers_twice [] = refl
+blank_tiers_twice (t ∷ ts) = ap₂ (λ (u : TierState) (us : List TierState). u ∷ us) (blank_twice t) (blank_tiers_twice ts)

@@ -21,3 +21,5 @@ pub mod Kept
 pub mod KeptLaws
 pub mod RunLaws
 pub mod BlankTiers
+pub mod BlankRuns
+pub mod OneSession
