@@ -23,3 +23,4 @@ pub mod RunLaws
 pub mod BlankTiers
 pub mod BlankRuns
 pub mod OneSession
+pub mod OneTurn
