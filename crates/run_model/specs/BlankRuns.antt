@@ -29,7 +29,7 @@ use Rattle.run_model.specs.BlankTiers.{blank_body, blank_bodies, blank, blank_fe
 unfoldable pub blank_state : State → State
 blank_state a = record a { chain = record { tiers = map blank a.chain.tiers; epochs = a.chain.epochs } }
 
-abbrev chain_with : (ℕ → ℕ) → List TierState → Chain
+abbrev pub chain_with : (ℕ → ℕ) → List TierState → Chain
 chain_with epochs tiers = record { tiers = tiers; epochs = epochs }
 
 pub blank_state_twice : (a : State) → blank_state (blank_state a) ≡ blank_state a

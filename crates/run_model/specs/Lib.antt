@@ -24,3 +24,5 @@ pub mod BlankTiers
 pub mod BlankRuns
 pub mod OneSession
 pub mod OneTurn
+pub mod OneSettling
+pub mod OneRun

@@ -39,7 +39,7 @@ finishes_one mesh epochs s tries more t u first second =
     let done = made_by mesh epochs first.last t Done first.epoch first.done tt in
     let also = made_by mesh epochs second.last u Done second.epoch second.done tt in
     let same = leads_one mesh epochs s first.last second.last (steps_lead mesh epochs s tries first.last first.steps) (steps_lead mesh epochs s more second.last second.steps)
-        (sym (ap (λ (x : SessionStep). x.did) done)) (sym (ap (λ (x : SessionStep). x.did) also)) in
+    (sym (ap (λ (x : SessionStep). x.did) done)) (sym (ap (λ (x : SessionStep). x.did) also)) in
     ap (λ (x : SessionStep). x.state) (done ∙ ap (step_by mesh epochs) same ∙ sym also)
 
 -- ---- until it has no use

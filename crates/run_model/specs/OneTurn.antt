@@ -109,7 +109,7 @@ past (t ∷ ts) (suc k) none = let rest = past ts k none in omega arith
 abbrev blank_with : ℕ → ℕ → BodyLists → ℕ → SeenBody
 blank_with patch version lists n = record { patch = patch; version = version; lists = lists; bytes = replicate n 0 }
 
-same_blank : (w : World) (bodies : List BodyLists) → w.bodies ≡ Some bodies → (p : ℕ) (b c : SeenBody) → IsFileBody w p b → IsFileBody w p c → blank_body b ≡ blank_body c
+pub same_blank : (w : World) (bodies : List BodyLists) → w.bodies ≡ Some bodies → (p : ℕ) (b c : SeenBody) → IsFileBody w p b → IsFileBody w p c → blank_body b ≡ blank_body c
 same_blank w bodies told p b c first second =
     let at : (x : SeenBody) → IsFileBody w p x → slice_get bodies p ≡ Some x.lists = λ x is. subst (λ (o : Option (List BodyLists)). IfSome o (λ bs. slice_get bs p ≡ Some x.lists)) told is.told in
     let lists : b.lists ≡ c.lists = same_Some b.lists c.lists (sym (at b first) ∙ at c second) in
@@ -164,10 +164,10 @@ turn_one w bodies told a b c k x y rest more many first second outcomes =
     let also : paired y second.after ≡ turn_at w a k first.before second.fetched = subst (λ (t : TierState). paired y second.after ≡ turn_at w a k t second.fetched) (sym same) second.turns in
     let Both = Agree tier now (is_lowest w k) (GivesBelow w a.chain.tiers k) source first.fetched second.fetched uses rest more in
     let one : IsOneTurn (paired x first.after) (paired y second.after) =
-        subst (λ (p : Turn × TierState). Both p (paired y second.after)) (sym first.turns)
-        (subst (λ (q : Turn × TierState). Both (ranked_turn_of tier now (found_with first.fetched uses)) q) (sym also)
-        (ranked_one tier now (is_lowest w k) (GivesBelow w a.chain.tiers k) source first.fetched second.fetched uses rest more))
-        first.gives second.gives outcomes in
+    subst (λ (p : Turn × TierState). Both p (paired y second.after)) (sym first.turns)
+    (subst (λ (q : Turn × TierState). Both (ranked_turn_of tier now (found_with first.fetched uses)) q) (sym also)
+    (ranked_one tier now (is_lowest w k) (GivesBelow w a.chain.tiers k) source first.fetched second.fetched uses rest more))
+    first.gives second.gives outcomes in
     record {
       answer = one.answer;
       state = ap blank_state first.is ∙ moved_one a k x y first.after second.after one.answer one.after ∙ sym (ap blank_state second.is);
@@ -178,5 +178,5 @@ pub turn_one_like : (w : World) (bodies : List BodyLists) → w.bodies ≡ Some 
     → turn_outcome w (k, x) ++ rest ≡ turn_outcome w (k, y) ++ more → IsOneMove x y b c
 turn_one_like w bodies told a a' b c k x y rest more many like first second outcomes =
     let one = turn_one w bodies told (blank_state a) (blank_state b) (blank_state c) k x y rest more (blank_many a ∙ many) (blank_turns_to w k a b x first)
-        (subst (λ (s : State). TurnsTo w k s y (blank_state c)) (sym like) (blank_turns_to w k a' c y second)) outcomes in
+    (subst (λ (s : State). TurnsTo w k s y (blank_state c)) (sym like) (blank_turns_to w k a' c y second)) outcomes in
     record { answer = one.answer; state = sym (blank_state_twice b) ∙ one.state ∙ blank_state_twice c }

@@ -126,8 +126,8 @@ module _ (w : World) (bodies : List BodyLists) (is_told : IsTold w bodies) where
   held_lists : (c : State) (p : ℕ) → IsHeldAtTop w c p → slice_get bodies p ≡ Some (top_body c.chain.tiers p).lists
   held_lists c p held =
       let is : top_body c.chain.tiers p ≡ held.body =
-          ap (λ (o : Option TierState). option_map_or (λ (top : TierState). unwrap_or (slice_index_or top.held p None) no_body) o no_body) held.is_top
-          ∙ ap (λ (o : Option SeenBody). unwrap_or o no_body) (body_is_there held.top.held p held.body held.holds) in
+      ap (λ (o : Option TierState). option_map_or (λ (top : TierState). unwrap_or (slice_index_or top.held p None) no_body) o no_body) held.is_top
+      ∙ ap (λ (o : Option SeenBody). unwrap_or o no_body) (body_is_there held.top.held p held.body held.holds) in
       subst (λ (o : Option (List BodyLists)). IfSome o (λ bs. slice_get bs p ≡ Some held.body.lists)) is_told.told held.of_file.told
       ∙ ap (λ (b : SeenBody). Some b.lists) (sym is)
 
@@ -250,9 +250,10 @@ if_frame_then P Q (DidTell tiers) then is = tt
 runs_print : (w : World) (bodies : List BodyLists) (a b c : State) (orders : List Order) (dids : List Did) → IsTold w bodies → IsWorld w → IsSafe w b → Reaches w a b → Runs w b orders dids c → AllPrinted w bodies a dids
 runs_print w bodies a b c _ _ is_told world safe reached NoLine = tt
 runs_print w bodies a b d _ _ is_told world safe reached (OneLine {b = c} {order = order} {orders = orders} {did = did} {dids = dids} does rest) =
-    let events = does_reaches w b c order did does in
-    (if_frame_then (IsPrinted w bodies b) (IsPrintedFrom w bodies a) did (λ frame printed. record { state = b; reached = reached; printed = printed }) (prints_frame w bodies b c order did is_told world safe does),
-    runs_print w bodies a c d orders dids is_told world (events_keep_safe w b c world safe events) (reaches_both w a b c reached events) rest)
+    let events = does_reaches w b c order did does in (
+      if_frame_then (IsPrinted w bodies b) (IsPrintedFrom w bodies a) did (λ frame printed. record { state = b; reached = reached; printed = printed }) (prints_frame w bodies b c order did is_told world safe does),
+      runs_print w bodies a c d orders dids is_told world (events_keep_safe w b c world safe events) (reaches_both w a b c reached events) rest,
+    )
 
 pub all_frames_are_printed : (w : World) (bodies : List BodyLists) (a b : State) (orders : List Order) (dids : List Did) → IsTold w bodies → IsWorld w → IsSafe w a → Runs w a orders dids b → AllPrinted w bodies a dids
 all_frames_are_printed w bodies a b orders dids is_told world safe runs = runs_print w bodies a a b orders dids is_told world safe Stays runs

@@ -135,8 +135,8 @@ odd_followed : (told : Told) (s : TierState) (o : Outcome) (x : Turn × TierStat
 unfolding epochs_after
 odd_followed told s o x pinned p tier (Commits q none bare first) tied within odd stays =
     ap is_odd (risen_other q told.epochs p (λ same.
-      let away = subst (λ (n : ℕ). is_held s n ≡ false) (sym same) (away_not_there s.held q (tier.coming.away q (first_comes s.coming q first))) in
-      let held = tied.held p within in cc)) ∙ odd
+    let away = subst (λ (n : ℕ). is_held s n ≡ false) (sym same) (away_not_there s.held q (tier.coming.away q (first_comes s.coming q first))) in
+    let held = tied.held p within in cc)) ∙ odd
 odd_followed told s o x pinned p tier (Evicts v none victim leaves unused) tied within odd stays = ap is_odd (risen_other v told.epochs p (stays v victim leaves unused)) ∙ odd
 odd_followed told s o x pinned p tier (Reserves c enters) tied within odd stays = odd
 odd_followed told s o x pinned p tier (Gets q body none bare has is) tied within odd stays = odd

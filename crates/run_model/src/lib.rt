@@ -9,8 +9,8 @@ mod lines;
 mod states;
 
 pub use lines::{
-    a_turn_does_what_it_promises, each_frame_shows_a_whole_round, lines_are_events,
-    lines_keep_what_is_posted, runs_stay_safe,
+    a_run_has_one_text, a_turn_does_what_it_promises, each_frame_shows_a_whole_round,
+    lines_are_events, lines_keep_what_is_posted, runs_stay_safe,
 };
 pub use states::{
     a_safe_state_keeps_its_promises, every_event_keeps_a_state_safe, reaching_keeps_a_state_safe,

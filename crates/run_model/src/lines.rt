@@ -2,6 +2,7 @@
 
 ghost use Rattle.std.specs.Prelude.{◌≡◌, ℕ, List, Some, slice_get};
 ghost use Rattle.file_model.specs.Lists.{BodyLists, SeenBody};
+ghost use Rattle.script_model.specs.declared.orders.Line.{Line};
 ghost use Rattle.script_model.specs.declared.orders.Order.{Order};
 ghost use Rattle.tier_model.specs.declared.turns.Turn.{Turn};
 ghost use Rattle.tier_model.specs.Tiers.{TierState};
@@ -14,7 +15,7 @@ ghost use Rattle.run_model.specs.Events.{Happens, Reaches};
 ghost use Rattle.run_model.specs.Safe.{IsSafe};
 ghost use Rattle.run_model.specs.Lines.{Did, Does, Runs};
 ghost use Rattle.run_model.specs.AnswerLaws.{IsAnswer};
-ghost use Rattle.run_model.specs.RunTexts.{IsOpening};
+ghost use Rattle.run_model.specs.RunTexts.{StoreOutcome, IsOpening, IsRunText};
 ghost use Rattle.run_model.specs.PrintedFrames.{IsTold, IfFrame, IsPrinted, AllPrinted};
 ghost use Rattle.run_model.specs.Kept.{TakeWishes, ArePosted};
 
@@ -62,4 +63,12 @@ pub fn lines_keep_what_is_posted()
     ensures wishes { (w : World) (a b : State) → IsSafe w a → Happens w a b → TakeWishes w a
         → TakeWishes w b }
     ensures wishes_first { (w : World) (body : ℕ → SeenBody) → TakeWishes w (opening w body) }
+{}
+
+/// Where the file's bodies are told, the lines of a script and what the store gave have one text at most, from
+/// the opening on.
+pub fn a_run_has_one_text()
+    ensures { (w : World) (bodies : List BodyLists) → w.bodies ≡ Some bodies → IsWorld w
+        → (lines : List Line) (outcomes : List StoreOutcome) (first second : List ℕ)
+        → IsRunText w lines outcomes first → IsRunText w lines outcomes second → first ≡ second }
 {}
