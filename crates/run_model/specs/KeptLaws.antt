@@ -6,6 +6,7 @@ use Rattle.std.specs.Option.{option_map, option_map_or}
 use Rattle.file_model.specs.declared.fields.PatchField.{PatchField}
 use Rattle.file_model.specs.Lists.{IndexLists, SeenBody}
 use Rattle.round_model.specs.Views.{ViewSeen}
+use Rattle.script_model.specs.declared.limits.TheConstants.{SESSIONS}
 use Rattle.script_model.specs.declared.orders.Order.{Order}
 use Rattle.session_model.specs.Sessions.{SessionState, least_old, round_ended, opened, with_view, printed_once}
 use Rattle.session_model.specs.Steps.{epoch_for, step, step_by, free_old, free_or, free_step}
@@ -80,7 +81,7 @@ no_views (suc n) first v = no_views n (first + 1) v
 
 no_wish : (field : Option PatchField) → option_map_or (λ (f : PatchField). node_wish (posted_views (λ (i : ℕ). None)) f.tail) field 0 ≡ 0
 no_wish None = refl
-no_wish (Some f) = no_views 64 1 f.tail
+no_wish (Some f) = no_views SESSIONS 1 f.tail
 
 nothing_at : (n p : ℕ) → slice_index (replicate n 0) p ≡ 0
 nothing_at zero p = refl

@@ -26,3 +26,5 @@ pub mod OneSession
 pub mod OneTurn
 pub mod OneSettling
 pub mod OneRun
+pub mod Begins
+pub mod BeginLaws
