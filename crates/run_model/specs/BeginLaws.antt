@@ -18,8 +18,7 @@ use Rattle.run_model.specs.Sound.{IsTierOf, IsSound, sound_safe, safe_sound}
 use Rattle.run_model.specs.BodyLaws.{bodies-begun}
 use Rattle.run_model.specs.TurnLaws.{each_set_tier}
 use Rattle.run_model.specs.SafeLaws.{events_keep_safe}
-use Rattle.run_model.specs.Kept.{TakeWishes, ArePosted}
-use Rattle.run_model.specs.KeptLaws.{events_take}
+use Rattle.run_model.specs.Kept.{TakeWishes, ArePosted, IsKept}
 use Rattle.run_model.specs.Begins.{with_tier, Begins, ReachesOrBegins}
 
 module _ (w : World) (a : State) (k : ℕ) (before : TierState) (was : slice_get a.chain.tiers k ≡ Some before) where
@@ -76,11 +75,9 @@ module _ (w : World) (a : State) (k : ℕ) (before : TierState) (was : slice_get
 pub begins_safe : (w : World) (a b : State) (k : ℕ) → IsWorld w → IsSafe w a → Begins w k a b → IsSafe w b
 begins_safe w a b k world safe begins = subst (IsSafe w) (sym begins.is) (sound_safe w (with_tier a k (begun (board_of w a) begins.before)) world (begun_sound w a k begins.before begins.was (safe_sound w a safe)))
 
-pub begins_take : (w : World) (a b : State) (k : ℕ) → Begins w k a b → TakeWishes w a → TakeWishes w b
-begins_take w a b k begins take = subst (TakeWishes w) (sym begins.is) (begun_takes w a k begins.before begins.was take)
-
-pub begins_posted : (w : World) (a b : State) (k : ℕ) → Begins w k a b → ArePosted w a → ArePosted w b
-begins_posted w a b k begins posted = subst (ArePosted w) (sym begins.is) (begun_posted w a k begins.before begins.was posted)
+pub begins_kept : (w : World) (a b : State) (k : ℕ) → Begins w k a b → IsKept w a → IsKept w b
+begins_kept w a b k begins kept =
+    subst (IsKept w) (sym begins.is) (record { wishes = begun_takes w a k begins.before begins.was kept.wishes; posted = begun_posted w a k begins.before begins.was kept.posted })
 
 pub reached_or_begun_is_safe : (w : World) (a b : State) → IsWorld w → IsSafe w a → ReachesOrBegins w a b → IsSafe w b
 reached_or_begun_is_safe w a b world safe reaches =
@@ -88,12 +85,4 @@ reached_or_begun_is_safe w a b world safe reaches =
     elim reaches.or_begun [
       | inl same ↦ subst (IsSafe w) (sym same) last
       | inr begun ↦ begins_safe w reaches.last b begun.0 world last begun.1
-    ]
-
-pub reached_or_begun_takes : (w : World) (a b : State) → IsWorld w → IsSafe w a → ReachesOrBegins w a b → TakeWishes w a → TakeWishes w b
-reached_or_begun_takes w a b world safe reaches take =
-    let last = events_take w a reaches.last world safe reaches.reached take in
-    elim reaches.or_begun [
-      | inl same ↦ subst (TakeWishes w) (sym same) last
-      | inr begun ↦ begins_take w reaches.last b begun.0 begun.1 last
     ]

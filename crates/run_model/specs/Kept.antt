@@ -21,3 +21,8 @@ seat_view (Some s) = s.view
 -- what is posted are the views of the open sessions
 pub record ArePosted (w : World) (a : State) : Type 0 where
   pub each : (i : ℕ) → a.posted i ≡ option_map (posted_by w) (seat_view (a.sessions i))
+
+-- both
+pub record IsKept (w : World) (a : State) : Type 0 where
+  pub wishes : TakeWishes w a
+  pub posted : ArePosted w a

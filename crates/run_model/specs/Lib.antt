@@ -28,3 +28,4 @@ pub mod OneSettling
 pub mod OneRun
 pub mod Begins
 pub mod BeginLaws
+pub mod ToldBodies

@@ -17,7 +17,7 @@ ghost use Rattle.run_model.specs.Lines.{Did, Does, Runs};
 ghost use Rattle.run_model.specs.AnswerLaws.{IsAnswer};
 ghost use Rattle.run_model.specs.RunTexts.{StoreOutcome, IsOpening, IsRunText};
 ghost use Rattle.run_model.specs.PrintedFrames.{IsTold, IfFrame, IsPrinted, AllPrinted};
-ghost use Rattle.run_model.specs.Kept.{TakeWishes, ArePosted};
+ghost use Rattle.run_model.specs.Kept.{TakeWishes, IsKept};
 
 /// What a line does is a list of events, and so is what lines do one after another.
 pub fn lines_are_events()
@@ -54,15 +54,14 @@ pub fn a_turn_does_what_it_promises()
         → IsAnswer w a k answer after → b ≡ moved a k answer after → TurnsTo w k a answer b }
 {}
 
-/// What is posted are the views of the open sessions, after each line; and a tier that has taken the board's
-/// wishes keeps them, after each event. Both hold at the opening.
+/// What is posted are the views of the open sessions, and a tier that has taken the board's wishes keeps them: so
+/// it is at the opening and after each line, and each event keeps the second.
 pub fn lines_keep_what_is_posted()
-    ensures posted { (w : World) (a b : State) (order : Order) (did : Did) → Does w a order did b
-        → ArePosted w a → ArePosted w b }
-    ensures posted_first { (w : World) (body : ℕ → SeenBody) → ArePosted w (opening w body) }
-    ensures wishes { (w : World) (a b : State) → IsSafe w a → Happens w a b → TakeWishes w a
+    ensures first { (w : World) (body : ℕ → SeenBody) → IsKept w (opening w body) }
+    ensures line { (w : World) (a b : State) (order : Order) (did : Did) → IsWorld w → IsSafe w a
+        → Does w a order did b → IsKept w a → IsKept w b }
+    ensures event { (w : World) (a b : State) → IsSafe w a → Happens w a b → TakeWishes w a
         → TakeWishes w b }
-    ensures wishes_first { (w : World) (body : ℕ → SeenBody) → TakeWishes w (opening w body) }
 {}
 
 /// Where the file's bodies are told, the lines of a script and what the store gave have one text at most, from

@@ -1,14 +1,11 @@
-use Rattle.run_model.specs.KeptLaws.{event_takes, opening_takes, does_posted, opening_posted}
+use Rattle.run_model.specs.KeptLaws.{event_takes, opening_kept, does_kept}
 use Rattle.run_model.proofs.lines.lines_keep_what_is_posted.Goals as goal
 
-pub returns-clause-posted : goal.returns-clause-posted
-returns-clause-posted c = does_posted
+pub returns-clause-first : goal.returns-clause-first
+returns-clause-first c = opening_kept
 
-pub returns-clause-posted_first : goal.returns-clause-posted_first
-returns-clause-posted_first c = opening_posted
+pub returns-clause-line : goal.returns-clause-line
+returns-clause-line c = does_kept
 
-pub returns-clause-wishes : goal.returns-clause-wishes
-returns-clause-wishes c = event_takes
-
-pub returns-clause-wishes_first : goal.returns-clause-wishes_first
-returns-clause-wishes_first c = opening_takes
+pub returns-clause-event : goal.returns-clause-event
+returns-clause-event c = event_takes
