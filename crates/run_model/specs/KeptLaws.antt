@@ -6,7 +6,7 @@ use Rattle.std.specs.Option.{option_map, option_map_or}
 use Rattle.file_model.specs.declared.fields.PatchField.{PatchField}
 use Rattle.file_model.specs.Lists.{IndexLists, SeenBody}
 use Rattle.round_model.specs.Views.{ViewSeen}
-use Rattle.script_model.specs.declared.limits.TheConstants.{SESSIONS}
+use Rattle.token_words.specs.declared.session_sets.TheConstants.{SESSIONS}
 use Rattle.script_model.specs.declared.orders.Order.{Order}
 use Rattle.session_model.specs.Sessions.{SessionState, least_old, round_ended, opened, with_view, printed_once}
 use Rattle.session_model.specs.Steps.{epoch_for, step, step_by, free_old, free_or, free_step}

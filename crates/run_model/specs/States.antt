@@ -4,7 +4,7 @@ use Rattle.std.specs.List.{range_with_len}
 use Rattle.file_model.specs.Lists.{SeenBody}
 use Rattle.round_model.specs.Order.{Rules}
 use Rattle.round_model.specs.Views.{ViewSeen, view_rules}
-use Rattle.script_model.specs.declared.limits.TheConstants.{SESSIONS}
+use Rattle.token_words.specs.declared.session_sets.TheConstants.{SESSIONS}
 use Rattle.session_model.specs.Sessions.{SessionState, uses}
 use Rattle.tier_model.specs.declared.turns.Turn.{Turn}
 use Rattle.tier_model.specs.Tiers.{TierState}
