@@ -106,14 +106,14 @@ unfolding opened_tiers
 fresh_each index body [] width k t at = absurd (cc)
 fresh_each index body (b ∷ bs) width k t at = each-opened index body IsFresh b bs width (fresh_top index body b width) (λ c. fresh_tier index c width) k t at
 
-opening_takes : (w : World) (body : ℕ → SeenBody) → TakeWishes w (opening w body)
+pub opening_takes : (w : World) (body : ℕ → SeenBody) → TakeWishes w (opening w body)
 unfolding opening opened_chain board_of wish_of
 opening_takes w body = record {
   versions = λ k t at. let is = (fresh_each w.mesh.index body w.budgets w.width k t at).version in omega arith;
   wishes = λ k t at. record { wishes = λ same p within. (fresh_each w.mesh.index body w.budgets w.width k t at).wishes p ∙ sym (no_wish (slice_get w.mesh.index.fields p)) };
 }
 
-opening_posted : (w : World) (body : ℕ → SeenBody) → ArePosted w (opening w body)
+pub opening_posted : (w : World) (body : ℕ → SeenBody) → ArePosted w (opening w body)
 unfolding opening
 opening_posted w body = record { each = λ i. refl }
 
@@ -192,7 +192,7 @@ frees_view : (s t : SessionState) (unlocks : ℕ) → FreesAll s unlocks t → t
 frees_view s _ _ (NoUse none) = free_view s
 frees_view s t _ (MoreUse {n = n} did is rest) = frees_view (free_step s).state t n rest ∙ free_view s
 
-does_posted : (w : World) (a b : State) (order : Order) (did : Did) → Does w a order did b → ArePosted w a → ArePosted w b
+pub does_posted : (w : World) (a b : State) (order : Order) (did : Did) → Does w a order did b → ArePosted w a → ArePosted w b
 does_posted w a b order did (DoesOpen i number closed) posted =
     seated_posted w a i (Some (opened (length w.mesh.index.fields))) posted
     (posted.each i ∙ ap (λ (o : Option SessionState). option_map (posted_by w) (seat_view o)) closed ∙ ap (λ (v : Option ViewSeen). option_map (posted_by w) v) (sym (opened_view (length w.mesh.index.fields))))
@@ -208,7 +208,7 @@ does_posted w a b order did DoesStatus posted = posted
 pub opening_kept : (w : World) (body : ℕ → SeenBody) → IsKept w (opening w body)
 opening_kept w body = record { wishes = opening_takes w body; posted = opening_posted w body }
 
-does_take : (w : World) (a b : State) (order : Order) (did : Did) → IsWorld w → IsSafe w a → Does w a order did b → TakeWishes w a → TakeWishes w b
+pub does_take : (w : World) (a b : State) (order : Order) (did : Did) → IsWorld w → IsSafe w a → Does w a order did b → TakeWishes w a → TakeWishes w b
 does_take w a b order did world safe does take = events_take w a b world safe (does_reaches w a b order did does) take
 
 pub does_kept : (w : World) (a b : State) (order : Order) (did : Did) → IsWorld w → IsSafe w a → Does w a order did b → IsKept w a → IsKept w b

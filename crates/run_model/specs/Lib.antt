@@ -26,6 +26,3 @@ pub mod OneSession
 pub mod OneTurn
 pub mod OneSettling
 pub mod OneRun
-pub mod Begins
-pub mod BeginLaws
-pub mod ToldBodies

@@ -13,7 +13,6 @@ pub use lines::{
     lines_are_events, lines_keep_what_is_posted, runs_stay_safe,
 };
 pub use states::{
-    a_body_that_was_read_is_the_files, a_refused_turn_keeps_a_state_safe,
     a_safe_state_keeps_its_promises, every_event_keeps_a_state_safe, reaching_keeps_a_state_safe,
     the_opening_is_safe,
 };

@@ -1,20 +1,13 @@
 //! Events lead from safe states to safe states.
 
-ghost use Rattle.std.specs.Prelude.{◌≡◌, ℕ, ◌≤◌, true, List, Option, Some, slice_get, IfSome};
-ghost use Rattle.file_model.specs.declared.fields.PatchField.{PatchField};
+ghost use Rattle.std.specs.Prelude.{◌≡◌, ℕ, ◌≤◌, true, Some, slice_get};
 ghost use Rattle.file_model.specs.Lists.{SeenBody};
-ghost use Rattle.mesh_model.specs.Meshes.{MeshLists};
-ghost use Rattle.patch_file.specs.BodyRead.{IsBodyOf};
-ghost use Rattle.body_loads.specs.Loads.{body_at, read_as};
 ghost use Rattle.session_model.specs.Sessions.{SessionState, locks};
 ghost use Rattle.tier_model.specs.Tiers.{TierState, load};
-ghost use Rattle.run_model.specs.Worlds.{World, is_base, IsFileBody, IsWorld, HoldsBase, AreBaseBodies};
+ghost use Rattle.run_model.specs.Worlds.{World, is_base, IsWorld, HoldsBase, AreBaseBodies};
 ghost use Rattle.run_model.specs.States.{State, opening};
 ghost use Rattle.run_model.specs.Events.{Happens, Reaches};
 ghost use Rattle.run_model.specs.Safe.{IsHeldAtTop, IsSafe};
-ghost use Rattle.run_model.specs.Begins.{Begins, ReachesOrBegins};
-ghost use Rattle.run_model.specs.Kept.{IsKept};
-ghost use Rattle.run_model.specs.ToldBodies.{SaysIndex, world_of};
 
 /// Every event leads from a safe state to a safe state: one step of a session, one turn of a tier, whatever a
 /// fetch gives, one step towards no use, a session that opens or ends, a view that is posted or taken off, and a
@@ -44,21 +37,4 @@ pub fn a_safe_state_keeps_its_promises()
     ensures budgets { (w : World) (a : State) → IsSafe w a → (k : ℕ) (t : TierState) (budget : ℕ)
         → slice_get a.chain.tiers k ≡ Some t → slice_get w.budgets k ≡ Some budget
         → load t ≤ budget }
-{}
-
-/// A tier that began a turn, and was refused memory for it, has taken the wishes of the board, and no more: that
-/// leaves the state safe, and keeps what lines keep.
-pub fn a_refused_turn_keeps_a_state_safe()
-    ensures safe { (w : World) (a b : State) → IsWorld w → IsSafe w a → ReachesOrBegins w a b
-        → IsSafe w b }
-    ensures kept { (w : World) (a b : State) (k : ℕ) → Begins w k a b → IsKept w a → IsKept w b }
-{}
-
-/// A body that was read, of whose file the bytes may be told, is the file's body of its patch.
-pub fn a_body_that_was_read_is_the_files()
-    ensures { (mesh : MeshLists) (told : Option (List ℕ)) (budgets : List ℕ) (width p : ℕ)
-        (field : PatchField) (body : SeenBody) → slice_get mesh.index.fields p ≡ Some field
-        → IfSome told (SaysIndex mesh.index) → IsBodyOf mesh.index p body
-        → IfSome told (λ bytes. body_at mesh.index bytes p ≡ read_as body)
-        → IsFileBody (world_of mesh told budgets width) p body }
 {}
