@@ -41,11 +41,6 @@ words_after count epochs epochs' words views id v w p word are many within at he
         let before = are q below in
         omega arith
 
--- no word changes
-pub words_stay : (count : ℕ) (epochs words : List ℕ) (views views' : List View)
-    → AreWords count epochs words views → ((q : ℕ) → total (uses_of q) views' ≡ total (uses_of q) views) → AreWords count epochs words views'
-words_stay count epochs words views views' are uses q below = let before = are q below in let same = uses q in omega arith
-
 set_there : (views : List View) (i : ℕ) (v w : View) → get_elem? views i ≡ some v → get_elem? (set views i w) i ≡ some w
 set_there [] i v w at = absurd (some-ne-none v (sym at))
 set_there (x ∷ views) zero v w at = refl

@@ -1,18 +1,13 @@
 -- Lists that grow at their end.
-use Rattle.std.proofs.Common.{◌≡◌, ℕ, zero, suc, ◌+◌, ◌*◌, ◌<◌, false, not, List, [], ◌∷◌, ◌++◌, length, get_or, take, refl, sym, ap, subst, ◌∙◌, arith, Option, Some, nat_eq, length-append}
-use Rattle.std.specs.List.{slice_get, All}
+use Rattle.std.proofs.Common.{◌≡◌, ℕ, zero, suc, ◌+◌, ◌*◌, ◌<◌, false, not, List, [], ◌∷◌, ◌++◌, length, get_or, take, refl, sym, ap, ◌∙◌, arith, Option, Some, nat_eq, length-append}
+use Rattle.std.specs.List.{slice_get}
 use Rattle.std.specs.Option.{option_map_or}
 use Rattle.std.proofs.lemmas.List.{length-take, get_or-take}
 use mathlib.Core.Logic.{dite}
 use mathlib.Core.Option.{some, some-injective, some-ne-none}
 use native.Mathlib.Decide.{ℕ_discrete}
 use lib.ListN.{get_elem?}
-use Rattle.atomic_table.specs.Seated.{TableId}
 use Rattle.token_words.specs.declared.entries.Word.{Word}
-use Rattle.token_table.specs.Changes.{newcomer}
-use Rattle.token_table.specs.Seats.{SessionSeen, IsIdle}
-use Rattle.std.proofs.lemmas.Option.{get_or_from_slice_get}
-use Rattle.token_table.specs.Makings.{AreNewcomers, session_seen}
 use Rattle.token_table.specs.Closings.{AreRead}
 
 module _ {X : Type 0} where
@@ -31,16 +26,6 @@ module _ {X : Type 0} where
   get_or-elem [] i x d at = absurd (some-ne-none x (sym at))
   get_or-elem (y ∷ xs) zero x d at = some-injective y x at
   get_or-elem (y ∷ xs) (suc i) x d at = get_or-elem xs i x d at
-
--- one more session's seat
-pub newcomers-more : (table : TableId) (made : ℕ) (seats : List SessionSeen) → AreNewcomers table made seats
-    → AreNewcomers table (made + 1) (seats ++ session_seen table (newcomer (made + 1)) ∷ [])
-newcomers-more table made seats are = record {
-  many = (let many = are.many in omega (arith, length-append seats (session_seen table (newcomer (made + 1)) ∷ [])));
-  each = λ i within. dite (ℕ_discrete i made)
-      (λ same. slice_get-last seats _ i (same ∙ sym are.many) ∙ ap (λ (n : ℕ). Some (session_seen table (newcomer (n + 1)))) (sym same))
-      (λ apart. slice_get-push seats _ i (let many = are.many in omega arith) ∙ are.each i (omega arith));
-}
 
 -- one more word
 pub read-more : (epochs numbers : List ℕ) (words : List Word) (word : Word) (i : ℕ) → i < length epochs → AreRead (take i epochs) numbers words
@@ -67,9 +52,3 @@ read-more epochs numbers words word i within are epoch pin =
           ∙ (are.pin_is p (omega (arith, length-take i epochs))
           ∙ ap (λ (e : ℕ). not (nat_eq (get_or numbers p 0) (e * 4294967296))) (get_or-take i epochs p 0 less ∙ sym (get_or-take (i + 1) epochs p 0 (omega arith)))));
     }
-
--- new sessions use no patch
-pub newcomers_idle : (table : TableId) (made : ℕ) (seats : List SessionSeen) → AreNewcomers table made seats → All (IsIdle table) seats
-newcomers_idle table made seats are k d within =
-    let is : session_seen table (newcomer (k + 1)) ≡ get_or seats k d = sym (get_or_from_slice_get seats k _ d (are.each k (let many = are.many in omega arith))) in
-    subst (IsIdle table) is (record { of = record { here = refl; used = λ p locked. locked }; unused = λ p. refl })
