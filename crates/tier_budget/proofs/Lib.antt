@@ -1,4 +1,8 @@
 pub mod ComingWalks
+pub mod MarkSteps
+pub mod HeapSteps
+pub mod LeavingSteps
+pub mod LeastHeld
 pub mod IndexWalks
 pub mod Equations
 pub mod Writes

@@ -5,6 +5,7 @@ use Rattle.tier_model.specs.declared.turns.Turn.{Turn}
 use Rattle.tier_model.specs.Places.{Needs}
 use Rattle.tier_model.specs.Tiers.{TierState, count, places, load, pinned_bytes, IsTier}
 use Rattle.tier_budget.specs.Heads.{bodies_in}
+use Rattle.tier_budget.specs.Heaps.{IsLeaving}
 use Rattle.tier_budget.specs.declared.tiers.Tier.TheInside.{Inside}
 
 -- a tier, and for how many more entries its journal has room
@@ -29,7 +30,7 @@ state_of t = record {
   wishes = t.wishes.items;
   base = t.base.items;
   pinned = t.pinned.items;
-  passed = t.passed.items;
+  passed = t.passed;
   aside = t.aside.items;
   held = bodies_in t.held.items;
   came = bodies_in t.came.items;
@@ -49,5 +50,7 @@ pub record IsSoundTier (s : TierState) (bytes pinned held capacity : ℕ) : Type
   pub room : 0 < count s → s.width ≤ capacity
   pub few : count s ≤ 65536
 
-abbrev pub IsTierInside : Inside → Type 0
-IsTierInside t = IsSoundTier (state_of t) t.load t.pinned_bytes t.held_count (vec_capacity t.coming)
+-- a sound tier, with the heap of the patches that may leave
+pub record IsTierInside (t : Inside) : Type 0 where
+  pub sound : IsSoundTier (state_of t) t.load t.pinned_bytes t.held_count (vec_capacity t.coming)
+  pub leaving : IsLeaving (state_of t) t.leaving

@@ -7,6 +7,7 @@
 
 mod aside;
 mod coming;
+mod leaving;
 mod lists;
 mod marks;
 mod tiers;

@@ -11,6 +11,7 @@ ghost use Rattle.tier_budget.specs.TierView.{Allows};
 use super::Tier;
 use crate::aside::{entry_of, put_aside};
 use crate::coming::{first_patch, first_without_body, give_body, take_out};
+use crate::leaving::{put_back, rank_leaving, rank_to_leave};
 use crate::marks::unmark_all;
 use crate::wishes::{Wishes, copy_wishes};
 use patch_file::Body;
@@ -91,6 +92,10 @@ impl Tier {
         self.held[patch as usize] = body;
         self.held_count += 1;
         take_out(&mut self.coming, patch);
+        let at = patch as usize;
+        let passed = self.passed.has(patch);
+        let rank = rank_to_leave(true, self.pinned[at], passed, self.wishes[at]);
+        self.leaving.set(patch, rank);
         self.journal.push_reserved(Turn::Commit(patch));
     }
 
@@ -126,6 +131,7 @@ impl Tier {
         self.held[patch as usize] = None;
         self.held_count -= 1;
         self.load -= self.sizes[patch as usize];
+        self.leaving.set(patch, None);
         self.journal.push_reserved(Turn::Evict(patch));
     }
 
@@ -136,7 +142,8 @@ impl Tier {
         ensures kept { IsTier self.new.state }
         ensures spare { self.new.spare ≡ self.old.spare }
     {
-        self.passed[patch as usize] = true;
+        self.passed.mark(patch);
+        self.leaving.set(patch, None);
     }
 
     /// No patch was passed over.
@@ -145,7 +152,14 @@ impl Tier {
         ensures kept { IsTier self.new.state }
         ensures spare { self.new.spare ≡ self.old.spare }
     {
-        unmark_all(&mut self.passed);
+        put_back(
+            &mut self.leaving,
+            self.passed.listed(),
+            &self.held,
+            &self.pinned,
+            &self.wishes,
+        );
+        self.passed.clear();
     }
 
     /// No patch was passed over or put aside since this version of the wishes.
@@ -154,8 +168,8 @@ impl Tier {
         ensures kept { IsTier self.new.state }
         ensures spare { self.new.spare ≡ self.old.spare }
     {
+        self.calm();
         self.version = version;
-        unmark_all(&mut self.passed);
         unmark_all(&mut self.aside);
     }
 
@@ -167,5 +181,12 @@ impl Tier {
         ensures spare { self.new.spare ≡ self.old.spare }
     {
         copy_wishes(&mut self.wishes, wishes);
+        rank_leaving(
+            &mut self.leaving,
+            &self.held,
+            &self.pinned,
+            &self.passed,
+            &self.wishes,
+        );
     }
 }

@@ -30,13 +30,12 @@ impl Tier {
         ensures { Chooses (count self.now.state) (may_leave self.now.state below)
             (λ p q. outranks (kept_wish self.now.state) q p) result }
     {
-        let mut least = None;
-        for patch in 0..self.sizes.len() as u32 {
-            if self.may_leave(below, patch) && self.is_below(patch, least) {
-                least = Some(patch);
-            }
+        let patch = self.leaving.least()?;
+        if self.outranks(below, patch) {
+            Some(patch)
+        } else {
+            None
         }
-        least
     }
 
     // The same as `greatest_missing`.
@@ -79,19 +78,6 @@ impl Tier {
         }
     }
 
-    // Whether the patch ranks below the other, if there is one.
-    fn is_below(&self, patch: u32, other: Option<u32>) -> bool
-        requires patch { patch < count self.now.state }
-        requires other { MatchOption other (Unit {0}) (λ o. o < count self.now.state) }
-        ensures { MatchOption other (result ≡ true)
-            (λ o. result ≡ outranks (kept_wish self.now.state) o patch) }
-    {
-        match other {
-            Some(other) => self.outranks(other, patch),
-            None => true,
-        }
-    }
-
     // Whether the tier holds the patch.
     fn is_held(&self, patch: u32) -> bool
         requires { patch < count self.now.state }
@@ -110,17 +96,5 @@ impl Tier {
             && !self.is_held(patch)
             && !comes(&self.coming, patch)
             && !has_mark(&self.aside, patch)
-    }
-
-    // Whether the patch is held, neither pinned nor passed over, and below the given one.
-    fn may_leave(&self, below: u32, patch: u32) -> bool
-        requires below { below < count self.now.state }
-        requires patch { patch < count self.now.state }
-        ensures { result ≡ may_leave self.now.state below patch }
-    {
-        self.is_held(patch)
-            && !has_mark(&self.pinned, patch)
-            && !has_mark(&self.passed, patch)
-            && self.outranks(below, patch)
     }
 }

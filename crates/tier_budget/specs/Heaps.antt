@@ -1,0 +1,26 @@
+-- The heaps of a tier: which patches each has, and by which ranks.
+use Rattle.std.specs.Prelude.{◌≡◌, ◌≢◌, ℕ, ◌<◌, ◌⊎◌, Bool, not, ◌&&◌, List, length, slice_index, Option, Some, None, if◌then◌else◌}
+use Rattle.tier_heap.specs.Entries.{rank_at}
+use Rattle.tier_model.specs.Places.{is_marked}
+use Rattle.tier_model.specs.Tiers.{TierState, count, kept_wish, is_held}
+
+-- the heap has of each of n patches the rank that is told of it
+pub record IsHeapOf (n : ℕ) (told : ℕ → Option ℕ) (heap : List (Option ℕ)) : Type 0 where
+  pub all_patches : length heap ≡ n
+  pub each : (p : ℕ) → p < n → rank_at heap p ≡ told p
+
+-- a patch that is held, neither pinned nor passed over, may leave, by its wish
+abbrev pub leaving_rank : Bool → Bool → Bool → ℕ → Option ℕ
+leaving_rank held pinned passed wish = if held && (not pinned && not passed) then Some wish else None
+
+abbrev pub leaving_at : TierState → ℕ → Option ℕ
+leaving_at s p = leaving_rank (is_held s p) (is_marked s.pinned p) (is_marked s.passed p) (kept_wish s p)
+
+-- the heap has the patches that may leave
+abbrev pub IsLeaving : TierState → List (Option ℕ) → Type 0
+IsLeaving s heap = IsHeapOf (count s) (leaving_at s) heap
+
+-- each patch has the rank that is told of it, or it isn't one of the first n that are listed, and has the rank that it had
+pub record Refreshes (old : List (Option ℕ)) (n : ℕ) (listed : List ℕ) (told : ℕ → Option ℕ) (new : List (Option ℕ)) : Type 0 where
+  pub all_patches : length new ≡ length old
+  pub each : (p : ℕ) → (rank_at new p ≡ told p) ⊎ (((i : ℕ) → i < n → slice_index listed i ≢ p) × (rank_at new p ≡ rank_at old p))
