@@ -42,8 +42,8 @@ refresh_more old heap i listed told q o here within is_told so_far = record {
 }
 
 -- all patches were set, one by one
-pub heap_more : (n i : ℕ) (told : ℕ → Option ℕ) (heap : List (Option ℕ)) (q : ℕ) (o : Option ℕ) → q ≡ i → i < length heap → length heap ≡ n → o ≡ told q → ((p : ℕ) → p < i → rank_at heap p ≡ told p) → (p : ℕ) → p < i + 1 → rank_at (slice_set heap q o) p ≡ told p
-heap_more n i told heap q o here within many is_told so_far =
+pub heap_more : (i : ℕ) (told : ℕ → Option ℕ) (heap : List (Option ℕ)) (q : ℕ) (o : Option ℕ) → q ≡ i → i < length heap → o ≡ told q → ((p : ℕ) → p < i → rank_at heap p ≡ told p) → (p : ℕ) → p < i + 1 → rank_at (slice_set heap q o) p ≡ told p
+heap_more i told heap q o here within is_told so_far =
     below_more (λ (p : ℕ). rank_at (slice_set heap q o) p ≡ told p) i
     (λ p less. rank_at-set_other heap q p o (omega arith) ∙ so_far p less)
     (subst (λ (m : ℕ). rank_at (slice_set heap q o) m ≡ told m) here (rank_at-set_same heap q o (omega arith) ∙ is_told))

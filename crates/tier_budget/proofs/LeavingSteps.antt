@@ -1,22 +1,27 @@
 -- The heap of the patches that may leave goes along with each change of the tier.
-use Rattle.std.proofs.Common.{◌≡◌, ◌≢◌, ℕ, ◌+◌, ◌<◌, ◌≤◌, inl, inr, Bool, true, false, not, ◌&&◌, List, length, map, replicate, Option, Some, None, is_some, refl, sym, ap, subst, ◌∙◌, arith}
+use Rattle.std.proofs.Common.{◌≡◌, ◌≢◌, ℕ, zero, suc, ◌+◌, ◌<◌, ◌≤◌, inl, inr, Bool, true, false, not, ◌&&◌, List, length, map, replicate, Option, Some, None, is_some, refl, sym, ap, subst, ◌∙◌, arith}
 use Rattle.std.specs.Prelude.{slice_get, slice_index, slice_index_or, slice_set}
 use Rattle.std.proofs.lemmas.Bool.{cases_eq, cases_Bool, both_ways}
-use Rattle.std.proofs.lemmas.List.{length-map, get_or-set_same, get_or-set_other, get_or-replicate}
-use Rattle.file_model.specs.Lists.{SeenBody}
+use Rattle.std.proofs.lemmas.List.{length-map, get_or-set_same, get_or-set_other, get_or-replicate, length-replicate}
+use Rattle.file_model.specs.Lists.{IndexLists, SeenBody, body_size}
 use Rattle.tier_heap.specs.Entries.{rank_at}
+use Rattle.tier_heap.specs.Laws.{rank_at-replicate}
 use Rattle.tier_model.specs.declared.turns.Abort.{Abort}
 use Rattle.std.proofs.lemmas.Option.{slice_get_within}
 use Rattle.tier_model.specs.BodyLaws.{away_not_there}
 use Rattle.tier_model.specs.Places.{is_marked}
 use Rattle.tier_model.specs.Tiers.{TierState, count, kept_wish, is_held, IsTier}
-use Rattle.tier_model.specs.Changes.{reserved, arrived, aborted, committed, dropped, passed_over, calmed, renewed, ranked, with_pin}
+use Rattle.tier_model.specs.Changes.{fresh, reserved, arrived, aborted, committed, dropped, passed_over, calmed, renewed, ranked, with_pin}
 use Rattle.tier_budget.specs.Marked.{AreListed}
-use Rattle.tier_budget.specs.Heaps.{leaving_rank, leaving_at, IsHeapOf, IsLeaving, Refreshes}
+use Rattle.tier_budget.specs.Heaps.{leaving_rank, leaving_told, leaving_at, IsHeapOf, IsLeaving, Refreshes}
+use Rattle.tier_budget.specs.TierView.{TierSeen}
 use Rattle.tier_budget.proofs.HeapSteps.{heap_kept, heap_set}
 
 pub leaving_moved : (s u : TierState) (heap : List (Option ℕ)) → u ≡ s → IsLeaving s heap → IsLeaving u heap
 leaving_moved s u heap same is = subst (λ (t : TierState). IsLeaving t heap) (sym same) is
+
+pub leaving_of_view : (v w : TierSeen) (heap : List (Option ℕ)) → v ≡ w → IsLeaving v.state heap → IsLeaving w.state heap
+leaving_of_view v w heap same is = subst (λ (u : TierSeen). IsLeaving u.state heap) same is
 
 -- ---- changes that move no patch to or from the heap
 
@@ -66,15 +71,11 @@ leaving-with_pin s body heap tier away is =
 
 -- ---- changes that move one patch
 
-pub leaving-committed : (s : TierState) (p : ℕ) (o : Option ℕ) (heap : List (Option ℕ)) → IsTier s → p < count s → is_some (slice_index_or s.came p None) ≡ true
-    → o ≡ leaving_rank true (is_marked s.pinned p) (is_marked s.passed p) (kept_wish s p) → IsLeaving s heap → IsLeaving (committed s p) (slice_set heap p o)
+pub leaving-committed : (s : TierState) (p : ℕ) (o : Option ℕ) (heap : List (Option ℕ)) → o ≡ leaving_at (committed s p) p → IsLeaving s heap → IsLeaving (committed s p) (slice_set heap p o)
 unfolding committed
-leaving-committed s p o heap tier within came told is =
+leaving-committed s p o heap told is =
     let body = slice_index_or s.came p None in
-    let there : p < length s.held = (let held = tier.sized.held in omega arith) in
-    heap_set (count s) (leaving_at s) (leaving_at (committed s p)) heap p o
-    (told ∙ rank_same true (is_held (committed s p) p) (is_marked s.pinned p) (is_marked s.pinned p) (is_marked s.passed p) (is_marked s.passed p) (kept_wish s p)
-    (sym came ∙ ap (λ (b : Option SeenBody). is_some b) (sym (get_or-set_same s.held p body None there))) refl refl)
+    heap_set (count s) (leaving_at s) (leaving_at (committed s p)) heap p o told
     (λ q ne. rank_same (is_held s q) (is_held (committed s p) q) (is_marked s.pinned q) (is_marked s.pinned q) (is_marked s.passed q) (is_marked s.passed q) (kept_wish s q)
     (ap (λ (b : Option SeenBody). is_some b) (sym (get_or-set_other s.held p q body None ne))) refl refl)
     is
@@ -101,7 +102,7 @@ leaving-passed_over s p heap tier within is =
 
 -- ---- changes that move many
 
-pub leaving-calmed : (s : TierState) (listed : List ℕ) (told : ℕ → Option ℕ) (heap new : List (Option ℕ)) → AreListed s.passed listed → ((p : ℕ) → told p ≡ leaving_rank (is_held s p) (is_marked s.pinned p) false (kept_wish s p))
+pub leaving-calmed : (s : TierState) (listed : List ℕ) (told : ℕ → Option ℕ) (heap new : List (Option ℕ)) → AreListed s.passed listed → ((p : ℕ) → told p ≡ leaving_told s.held s.pinned false s.wishes p)
     → Refreshes heap (length listed) listed told new → IsLeaving s heap → IsLeaving (calmed s) new
 unfolding calmed
 leaving-calmed s listed told heap new are_listed is_told refreshes is = record {
@@ -121,3 +122,25 @@ leaving-calmed s listed told heap new are_listed is_told refreshes is = record {
 pub leaving-renewed : (s : TierState) (version : ℕ) (heap : List (Option ℕ)) → IsLeaving (calmed s) heap → IsLeaving (renewed s version) heap
 unfolding calmed renewed
 leaving-renewed s version heap is = is
+
+-- ---- what the code reads
+
+pub told_same : (held bodies : List (Option SeenBody)) (pinned pins : List Bool) (passed mark : Bool) (wishes wants : List ℕ) (p : ℕ) → held ≡ bodies → pinned ≡ pins → passed ≡ mark → wishes ≡ wants → leaving_told held pinned passed wishes p ≡ leaving_told bodies pins mark wants p
+told_same held bodies pinned pins passed mark wishes wants p a b d e = rw (a, b, d, e)
+
+-- ---- a new tier
+
+none_held : (n p : ℕ) → is_some (slice_index_or (replicate {A = Option SeenBody} n None) p None) ≡ false
+none_held zero zero = refl
+none_held zero (suc p) = refl
+none_held (suc n) zero = refl
+none_held (suc n) (suc p) = none_held n p
+
+pub leaving-fresh : (index : IndexLists) (budget width : ℕ) (heap : List (Option ℕ)) → heap ≡ replicate (length index.fields) None → IsLeaving (fresh index budget width) heap
+unfolding fresh
+leaving-fresh index budget width heap is = rw is (record {
+  all_patches = length-replicate (length index.fields) None ∙ sym (length-map index.fields (body_size index.version));
+  each = λ p within.
+      let n = length index.fields in
+      rank_at-replicate n p ∙ sym (stays_unheld (is_some (slice_index_or (replicate {A = Option SeenBody} n None) p None)) (is_marked (replicate n false) p) (is_marked (replicate n false) p) (slice_index (replicate n 0) p) (none_held n p));
+})

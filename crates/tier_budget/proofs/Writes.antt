@@ -32,3 +32,7 @@ has_place v n p many within = subst (λ (k : ℕ). p < k) (sym (v.ok.0 ∙ sym (
 
 pub has_item : {X Z : Type 0} (bodies : List (Option (Arc X Z))) (n p : ℕ) → length (bodies_in bodies) ≡ n → p < n → p < length bodies
 has_item bodies n p many within = subst (λ (k : ℕ). p < k) (sym (sym (length-map bodies (option_map arc_value)) ∙ many)) within
+
+-- the bodies behind a slice are as many as there are patches
+pub as_many : {X Z : Type 0} (bodies slice : List (Option (Arc X Z))) (n : ℕ) → slice ≡ bodies → length (bodies_in bodies) ≡ n → length slice ≡ n
+as_many bodies slice n is many = ap length is ∙ sym (length-map bodies (option_map arc_value)) ∙ many

@@ -1,8 +1,9 @@
 -- The heaps of a tier: which patches each has, and by which ranks.
-use Rattle.std.specs.Prelude.{◌≡◌, ◌≢◌, ℕ, ◌<◌, ◌⊎◌, Bool, not, ◌&&◌, List, length, slice_index, Option, Some, None, if◌then◌else◌}
+use Rattle.std.specs.Prelude.{◌≡◌, ◌≢◌, ℕ, ◌<◌, ◌⊎◌, Bool, not, ◌&&◌, List, length, slice_index, slice_index_or, is_some, Option, Some, None, if◌then◌else◌}
+use Rattle.file_model.specs.Lists.{SeenBody}
 use Rattle.tier_heap.specs.Entries.{rank_at}
 use Rattle.tier_model.specs.Places.{is_marked}
-use Rattle.tier_model.specs.Tiers.{TierState, count, kept_wish, is_held}
+use Rattle.tier_model.specs.Tiers.{TierState, count}
 
 -- the heap has of each of n patches the rank that is told of it
 pub record IsHeapOf (n : ℕ) (told : ℕ → Option ℕ) (heap : List (Option ℕ)) : Type 0 where
@@ -13,8 +14,11 @@ pub record IsHeapOf (n : ℕ) (told : ℕ → Option ℕ) (heap : List (Option �
 abbrev pub leaving_rank : Bool → Bool → Bool → ℕ → Option ℕ
 leaving_rank held pinned passed wish = if held && (not pinned && not passed) then Some wish else None
 
+abbrev pub leaving_told : List (Option SeenBody) → List Bool → Bool → List ℕ → ℕ → Option ℕ
+leaving_told held pinned passed wishes p = leaving_rank (is_some (slice_index_or held p None)) (is_marked pinned p) passed (slice_index wishes p)
+
 abbrev pub leaving_at : TierState → ℕ → Option ℕ
-leaving_at s p = leaving_rank (is_held s p) (is_marked s.pinned p) (is_marked s.passed p) (kept_wish s p)
+leaving_at s p = leaving_told s.held s.pinned (is_marked s.passed p) s.wishes p
 
 -- the heap has the patches that may leave
 abbrev pub IsLeaving : TierState → List (Option ℕ) → Type 0

@@ -1,10 +1,9 @@
 //! The heap of the patches that may leave, by their wishes.
 
-ghost use Rattle.std.specs.Prelude.{◌≡◌, ℕ, ◌<◌, ◌≤◌, ◌⊎◌, false, Some, length, slice_index, slice_index_or, is_some, None};
-ghost use Rattle.tier_heap.specs.Entries.{rank_at};
+ghost use Rattle.std.specs.Prelude.{◌≡◌, ℕ, ◌<◌, ◌≤◌, false, length, slice_index};
 ghost use Rattle.tier_model.specs.Places.{is_marked};
 ghost use Rattle.tier_budget.specs.Heads.{bodies_in};
-ghost use Rattle.tier_budget.specs.Heaps.{leaving_rank, IsHeapOf, Refreshes};
+ghost use Rattle.tier_budget.specs.Heaps.{leaving_told, IsHeapOf, Refreshes};
 
 use crate::marks::Marks;
 use patch_file::Body;
@@ -12,11 +11,21 @@ use std::sync::Arc;
 use tier_heap::PairHeap;
 
 /// The rank of a patch that may leave, None of one that may not.
-pub fn rank_to_leave(is_held: bool, is_pinned: bool, is_passed: bool, wish: u64) -> Option<u64>
-    ensures { result ≡ leaving_rank is_held is_pinned is_passed wish }
+pub fn rank_to_leave(
+    held: &[Option<Arc<Body>>],
+    pinned: &[bool],
+    is_passed: bool,
+    wishes: &[u64],
+    patch: u32,
+) -> Option<u64>
+    requires held { patch < length held.now }
+    requires pinned { patch < length pinned.now }
+    requires wishes { patch < length wishes.now }
+    ensures { result ≡ leaving_told (bodies_in held.now) pinned.now is_passed wishes.now patch }
 {
-    if is_held && !is_pinned && !is_passed {
-        Some(wish)
+    let at = patch as usize;
+    if held[at].is_some() && !pinned[at] && !is_passed {
+        Some(wishes[at])
     } else {
         None
     }
@@ -36,12 +45,10 @@ pub fn put_back(
     requires pinned { length pinned.now ≡ length leaving.old }
     requires wishes { length wishes.now ≡ length leaving.old }
     ensures { Refreshes leaving.old (length listed.now) listed.now
-        (λ p. leaving_rank (is_some (slice_index_or (bodies_in held.now) p None))
-            (is_marked pinned.now p) false (slice_index wishes.now p)) leaving.new }
+        (leaving_told (bodies_in held.now) pinned.now false wishes.now) leaving.new }
 {
     for patch in listed {
-        let at = *patch as usize;
-        let rank = rank_to_leave(held[at].is_some(), pinned[at], false, wishes[at]);
+        let rank = rank_to_leave(held, pinned, false, wishes, *patch);
         leaving.set(*patch, rank);
     }
 }
@@ -60,13 +67,11 @@ pub fn rank_leaving(
     requires passed { length passed.now ≡ length leaving.old }
     requires wishes { length wishes.now ≡ length leaving.old }
     ensures { IsHeapOf (length leaving.old)
-        (λ p. leaving_rank (is_some (slice_index_or (bodies_in held.now) p None))
-            (is_marked pinned.now p) (is_marked passed.now p) (slice_index wishes.now p))
+        (λ p. leaving_told (bodies_in held.now) pinned.now (is_marked passed.now p) wishes.now p)
         leaving.new }
 {
-    for at in 0..held.len() {
-        let patch = at as u32;
-        let rank = rank_to_leave(held[at].is_some(), pinned[at], passed.has(patch), wishes[at]);
+    for patch in 0..held.len() as u32 {
+        let rank = rank_to_leave(held, pinned, passed.has(patch), wishes, patch);
         leaving.set(patch, rank);
     }
 }

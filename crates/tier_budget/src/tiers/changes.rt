@@ -92,9 +92,8 @@ impl Tier {
         self.held[patch as usize] = body;
         self.held_count += 1;
         take_out(&mut self.coming, patch);
-        let at = patch as usize;
-        let passed = self.passed.has(patch);
-        let rank = rank_to_leave(true, self.pinned[at], passed, self.wishes[at]);
+        let is_passed = self.passed.has(patch);
+        let rank = rank_to_leave(&self.held, &self.pinned, is_passed, &self.wishes, patch);
         self.leaving.set(patch, rank);
         self.journal.push_reserved(Turn::Commit(patch));
     }

@@ -12,6 +12,7 @@ use Rattle.tier_budget.proofs.Equations.{aborted_is}
 use Rattle.tier_budget.proofs.SumLaws.{size_read}
 use Rattle.tier_budget.proofs.Writes.{written, at_some}
 use Rattle.tier_budget.proofs.SoundLaws.{sound_of_view, sound_moved, sound-aborted, size_of_coming}
+use Rattle.tier_budget.proofs.LeavingSteps.{leaving_moved, leaving_of_view, leaving-aborted}
 use Rattle.tier_budget.proofs.tiers.Tier.abort.Goals as goal
 
 bare_is : (seen inside : List Coming) (o : Option ℕ) (p : ℕ) → seen ≡ inside → o ≡ first_bare seen → o ≡ Some p → first_bare inside ≡ Some p
@@ -20,23 +21,23 @@ bare_is seen inside o p same told is = ap first_bare (sym same) ∙ sym told ∙
 pub index-requires : goal.index-requires
 index-requires c =
     let bare = bare_is c.deref.result.now c.self.inside.coming.items c.first_without_body.result c.in-Some.patch c.deref.ensures.value c.first_without_body.ensures c.in-Some.is in
-    let within = comes_within (state_of c.self.inside) c.in-Some.patch c.self.invariant.tier (bare_comes c.self.inside.coming.items c.in-Some.patch bare) in
+    let within = comes_within (state_of c.self.inside) c.in-Some.patch c.self.invariant.sound.tier (bare_comes c.self.inside.coming.items c.in-Some.patch bare) in
     subst (λ (n : ℕ). c.in-Some.patch < n) (sym c.self.inside.sizes.ok.0) within
 
 pub overflow_sub-self : goal.overflow_sub-self
 overflow_sub-self c =
     let s = state_of c.self.inside in
     let bare = bare_is c.deref.result.now c.self.inside.coming.items c.first_without_body.result c.in-Some.patch c.deref.ensures.value c.first_without_body.ensures c.in-Some.is in
-    let within = comes_within s c.in-Some.patch c.self.invariant.tier (bare_comes c.self.inside.coming.items c.in-Some.patch bare) in
+    let within = comes_within s c.in-Some.patch c.self.invariant.sound.tier (bare_comes c.self.inside.coming.items c.in-Some.patch bare) in
     let is = size_read (tier_view c.self.inside) (tier_view c.self.inside) c.in-Some.patch c.index.result.now refl within c.index.ensures in
-    let less = size_of_coming s c.in-Some.patch _ _ _ _ c.self.invariant bare in
+    let less = size_of_coming s c.in-Some.patch _ _ _ _ c.self.invariant.sound bare in
     subst (λ (n : ℕ). n ≤ c.self.inside.load) (sym is) less
 
 pub put_aside-requires : goal.put_aside-requires
 put_aside-requires c =
     let bare = bare_is c.deref.result.now c.self.inside.coming.items c.first_without_body.result c.in-Some.patch c.deref.ensures.value c.first_without_body.ensures c.in-Some.is in
-    let within = comes_within (state_of c.self.inside) c.in-Some.patch c.self.invariant.tier (bare_comes c.self.inside.coming.items c.in-Some.patch bare) in
-    subst (λ (n : ℕ). c.in-Some.patch < n) (sym (ap length c.deref_mut.ensures.value ∙ c.self.invariant.tier.sized.aside)) within
+    let within = comes_within (state_of c.self.inside) c.in-Some.patch c.self.invariant.sound.tier (bare_comes c.self.inside.coming.items c.in-Some.patch bare) in
+    subst (λ (n : ℕ). c.in-Some.patch < n) (sym (ap length c.deref_mut.ensures.value ∙ c.self.invariant.sound.tier.sized.aside)) within
 
 is_aborted : (c : goal.After-push_reserved) → record (state_of c.self.inside) {
   aside = (with_items c.self.inside.aside c.put_aside.new.aside).items;
@@ -60,14 +61,19 @@ pub invariant_of-self : goal.invariant_of-self
 invariant_of-self c =
     let old = c.args.self.now.state in
     let p = c.in-Some.patch in
-    let sound = sound_of_view (tier_view c.self.inside) c.args.self.now c.self.inside.load c.self.inside.pinned_bytes c.self.inside.held_count c.self.inside.coming.cap c.self.view_is c.self.invariant in
+    let sound = sound_of_view (tier_view c.self.inside) c.args.self.now c.self.inside.load c.self.inside.pinned_bytes c.self.inside.held_count c.self.inside.coming.cap c.self.view_is c.self.invariant.sound in
     let within = comes_within old p sound.tier (bare_comes old.coming p (bare_of_old c)) in
-    sound_moved (aborted old p c.args.why) _ (c.self.inside.load - size old p) _ _ _ _ _ _ _ (is_aborted c)
-    (ap (λ n. c.self.inside.load - n) (size_read (tier_view c.self.inside) c.args.self.now p c.index.result.now c.self.view_is within c.index.ensures)) refl refl c.take_out.ensures.capacity
-    (sound-aborted old p c.args.why _ _ _ _ sound (bare_of_old c))
+    let heap = leaving_of_view (tier_view c.self.inside) c.args.self.now c.self.inside.leaving c.self.view_is c.self.invariant.leaving in
+    record {
+      sound = sound_moved (aborted old p c.args.why) _ (c.self.inside.load - size old p) _ _ _ _ _ _ _ (is_aborted c)
+          (ap (λ n. c.self.inside.load - n) (size_read (tier_view c.self.inside) c.args.self.now p c.index.result.now c.self.view_is within c.index.ensures)) refl refl c.take_out.ensures.capacity
+          (sound-aborted old p c.args.why _ _ _ _ sound (bare_of_old c));
+      leaving = leaving_moved (aborted old p c.args.why) _ _ (is_aborted c)
+          (leaving-aborted old p c.args.why c.self.inside.leaving heap);
+    }
 
 pub returns-clause-state : goal.returns-clause-state
 returns-clause-state c = at_some _ _ c.in-Some.patch (bare_of_old c) (is_aborted c)
 
 pub returns-clause-kept : goal.returns-clause-kept
-returns-clause-kept c = (invariant_of-self c).tier
+returns-clause-kept c = (invariant_of-self c).sound.tier
