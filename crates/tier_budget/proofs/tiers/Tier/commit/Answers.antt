@@ -45,8 +45,8 @@ rank_to_leave-rank-requires c =
     let there = within (goal.at.rank_to_leave-rank-requires c).In-Some in
     let sized = c.self.invariant.sound.tier.sized in
     let held : c.in-Some.patch < length c.deref-2.result.now =
-      subst (λ (n : ℕ). c.in-Some.patch < n) (sym (ap length c.deref-2.ensures.value ∙ length-set c.self.inside.held.items c.in-Some.patch c.take-body.result))
-      (has_item c.self.inside.held.items _ c.in-Some.patch sized.held there) in
+    subst (λ (n : ℕ). c.in-Some.patch < n) (sym (ap length c.deref-2.ensures.value ∙ length-set c.self.inside.held.items c.in-Some.patch c.take-body.result))
+    (has_item c.self.inside.held.items _ c.in-Some.patch sized.held there) in
     record {
       held = held;
       pinned = subst (λ (n : ℕ). c.in-Some.patch < n) (sym (ap length c.deref-3.ensures.value ∙ sized.pinned)) there;

@@ -36,7 +36,7 @@ rank_leaving-requires g c =
       pinned = ap length c.deref-2.ensures.value ∙ sized.pinned ∙ sym many;
       passed = sized.passed ∙ sym many;
       wishes = ap length (c.deref-3.ensures.value ∙ wishes_are g (goal.at.rank_leaving-requires g c).After-copy_wishes)
-        ∙ length-map (range_with_len 0 (count (state_of c.self.inside))) (g.W.Wishes.wish_of c.args.wishes.now) ∙ length-range_with_len 0 (count (state_of c.self.inside)) ∙ sym many;
+          ∙ length-map (range_with_len 0 (count (state_of c.self.inside))) (g.W.Wishes.wish_of c.args.wishes.now) ∙ length-range_with_len 0 (count (state_of c.self.inside)) ∙ sym many;
     }
 
 pub returns-clause-state : goal.returns-clause-state
