@@ -253,3 +253,5 @@ impl EndHeap {
         }
     }
 }
+
+mod searches;

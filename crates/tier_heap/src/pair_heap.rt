@@ -1,7 +1,7 @@
 //! A finite map from ids to ranks with both its ends.
 
-ghost use Rattle.std.specs.Prelude.{◌≡◌, ◌<◌, ◌↔◌, [], length, slice_set, replicate, IsSome, IsNone, IfOk, IfSome};
-ghost use Rattle.tier_heap.specs.Entries.{rank_at, IsEmpty, IsGreatest, IsLeast};
+ghost use Rattle.std.specs.Prelude.{◌≡◌, ℕ, ◌<◌, ◌↔◌, [], length, slice_set, replicate, IsSome, IsNone, IfOk, IfSome, IfNone};
+ghost use Rattle.tier_heap.specs.Entries.{rank_at, IsEmpty, IsGreatest, IsLeast, NoneFits, IsGreatestBy};
 
 use crate::end_heap::{End, EndHeap};
 use grid_vertex::NoMemory;
@@ -118,6 +118,17 @@ impl PairHeap {
         ensures greatest { IfSome result (IsGreatest self.now) }
     {
         self.greatest.first()
+    }
+
+    /// The id that fits whose entry is above all others that fit, None where none fits. No id is asked
+    /// that is below one that fits.
+    pub fn greatest_where<F: Fn(u32) -> bool>(&self, fits: F) -> Option<u32>
+        requires { (id : ℕ) → IsSome (rank_at self.now id) → F.pre fits id }
+        ensures none { IfNone result (NoneFits self.now (λ id answer. F.post fits id answer)) }
+        ensures greatest { IfSome result
+            (IsGreatestBy self.now (λ id answer. F.post fits id answer)) }
+    {
+        self.greatest.first_where(&self.ranks, fits)
     }
 
     /// The id whose entry is below all others, None where the map is empty.
