@@ -10,6 +10,7 @@ mod coming;
 mod leaving;
 mod lists;
 mod marks;
+mod missing;
 mod tiers;
 mod wishes;
 

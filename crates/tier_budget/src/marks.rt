@@ -35,13 +35,6 @@ pub fn has_mark(marks: &[bool], patch: u32) -> bool
     marks[patch as usize]
 }
 
-/// No patch is marked.
-pub fn unmark_all(marks: &mut [bool])
-    ensures { marks.new ≡ replicate (length marks.old) false }
-{
-    marks.fill(false);
-}
-
 /// Takes the mark of each listed patch.
 fn unmark(marks: &mut [bool], listed: &[u32])
     requires { AreListed marks.old listed.now }

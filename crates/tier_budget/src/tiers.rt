@@ -26,12 +26,13 @@ pub struct Tier {
     base: Vec<bool>,
     pinned: Vec<bool>,
     passed: Marks,
-    aside: Vec<bool>,
+    aside: Marks,
     held: Vec<Option<Arc<Body>>>,
     came: Vec<Option<Arc<Body>>>,
     coming: Vec<Coming>,
     journal: Vec<Turn>,
     leaving: PairHeap,
+    missing: PairHeap,
 }
 
 impl Model for Tier {
@@ -86,12 +87,13 @@ impl Tier {
             base: base_patches(alloc, index)?,
             pinned: vec![in alloc; false; unmarked]?,
             passed: Marks::with_patches(alloc, patches)?,
-            aside: vec![in alloc; false; unmarked]?,
+            aside: Marks::with_patches(alloc, patches)?,
             held: no_bodies(alloc, patches)?,
             came: no_bodies(alloc, patches)?,
             coming: Vec::with_capacity(alloc, width as usize)?,
             journal: Vec::new(alloc),
             leaving: PairHeap::with_ids(alloc, patches)?,
+            missing: PairHeap::with_ids(alloc, patches)?,
         })
     }
 
@@ -174,7 +176,7 @@ impl Tier {
         requires { patch < count self.now.state }
         ensures { result ≡ is_marked self.now.state.aside patch }
     {
-        has_mark(&self.aside, patch)
+        self.aside.has(patch)
     }
 
     /// Whether the patch leads from a root.
@@ -215,12 +217,13 @@ impl MadeWith<Global> for Tier {
             base: Vec::new(alloc),
             pinned: Vec::new(alloc),
             passed: Marks::new(alloc),
-            aside: Vec::new(alloc),
+            aside: Marks::new(alloc),
             held: Vec::new(alloc),
             came: Vec::new(alloc),
             coming: Vec::new(alloc),
             journal: Vec::new(alloc),
             leaving: PairHeap::new(alloc),
+            missing: PairHeap::new(alloc),
         }
     }
 }

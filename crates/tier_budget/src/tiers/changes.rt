@@ -12,7 +12,7 @@ use super::Tier;
 use crate::aside::{entry_of, put_aside};
 use crate::coming::{first_patch, first_without_body, give_body, take_out};
 use crate::leaving::{put_back, rank_leaving, rank_to_leave};
-use crate::marks::unmark_all;
+use crate::missing::{rank_missing, rank_of_missing, seek_again};
 use crate::wishes::{Wishes, copy_wishes};
 use patch_file::Body;
 use std::sync::Arc;
@@ -30,10 +30,11 @@ impl Tier {
         ensures kept { IsTier self.new.state }
         ensures spare { self.new.spare ≡ self.old.spare }
     {
-        let patch = body.patch() as usize;
+        let patch = body.patch();
         let size = body.size();
-        self.held[patch] = Some(body);
-        self.pinned[patch] = true;
+        self.held[patch as usize] = Some(body);
+        self.pinned[patch as usize] = true;
+        self.missing.set(patch, None);
         self.held_count += 1;
         self.load += size;
         self.pinned_bytes += size;
@@ -54,6 +55,7 @@ impl Tier {
             patch,
             has_body: false,
         });
+        self.missing.set(patch, None);
         self.journal.push_reserved(Turn::Reserve(patch));
     }
 
@@ -115,6 +117,16 @@ impl Tier {
         self.load -= self.sizes[patch as usize];
         take_out(&mut self.coming, patch);
         put_aside(&mut self.aside, patch, why);
+        let is_aside = self.aside.has(patch);
+        let rank = rank_of_missing(
+            &self.wishes,
+            &self.base,
+            &self.held,
+            &self.coming,
+            is_aside,
+            patch,
+        );
+        self.missing.set(patch, rank);
         self.journal.push_reserved(entry_of(patch, why));
     }
 
@@ -131,6 +143,16 @@ impl Tier {
         self.held_count -= 1;
         self.load -= self.sizes[patch as usize];
         self.leaving.set(patch, None);
+        let is_aside = self.aside.has(patch);
+        let rank = rank_of_missing(
+            &self.wishes,
+            &self.base,
+            &self.held,
+            &self.coming,
+            is_aside,
+            patch,
+        );
+        self.missing.set(patch, rank);
         self.journal.push_reserved(Turn::Evict(patch));
     }
 
@@ -169,7 +191,15 @@ impl Tier {
     {
         self.calm();
         self.version = version;
-        unmark_all(&mut self.aside);
+        seek_again(
+            &mut self.missing,
+            self.aside.listed(),
+            &self.wishes,
+            &self.base,
+            &self.held,
+            &self.coming,
+        );
+        self.aside.clear();
     }
 
     /// Keeps the wish of each patch, by which patches rank from now on.
@@ -186,6 +216,14 @@ impl Tier {
             &self.pinned,
             &self.passed,
             &self.wishes,
+        );
+        rank_missing(
+            &mut self.missing,
+            &self.wishes,
+            &self.base,
+            &self.held,
+            &self.coming,
+            &self.aside,
         );
     }
 }
