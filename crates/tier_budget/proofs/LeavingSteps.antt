@@ -119,10 +119,6 @@ leaving-calmed s listed told heap new are_listed is_told refreshes is = record {
       ];
 }
 
-pub leaving-renewed : (s : TierState) (version : ℕ) (heap : List (Option ℕ)) → IsLeaving (calmed s) heap → IsLeaving (renewed s version) heap
-unfolding calmed renewed
-leaving-renewed s version heap is = is
-
 -- ---- what the code reads
 
 pub told_same : (held bodies : List (Option SeenBody)) (pinned pins : List Bool) (passed mark : Bool) (wishes wants : List ℕ) (p : ℕ) → held ≡ bodies → pinned ≡ pins → passed ≡ mark → wishes ≡ wants → leaving_told held pinned passed wishes p ≡ leaving_told bodies pins mark wants p

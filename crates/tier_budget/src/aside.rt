@@ -22,7 +22,8 @@ pub fn entry_of(patch: u32, why: Abort) -> Turn
 #[tactic(auto, unfolding(tier_model::specs::Changes::aside_after))]
 pub fn put_aside(aside: &mut Marks, patch: u32, why: Abort)
     requires { patch < length aside.old }
-    ensures { aside.new ≡ aside_after aside.old patch why }
+    ensures after { aside.new ≡ aside_after aside.old patch why }
+    ensures many { length aside.new ≡ length aside.old }
 {
     match why {
         Abort::Lost => {}

@@ -75,7 +75,7 @@ pub fn rank_missing(
     requires aside { length aside.now ≡ length missing.old }
     ensures { IsHeapOf (length missing.old)
         (λ p. missing_told wishes.now base.now (bodies_in held.now) coming.now
-            (is_marked aside.now p) p)
+        (is_marked aside.now p) p)
         missing.new }
 {
     for patch in 0..held.len() as u32 {

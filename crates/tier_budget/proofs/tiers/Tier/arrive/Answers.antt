@@ -11,6 +11,7 @@ use Rattle.tier_budget.proofs.Equations.{arrived_is}
 use Rattle.tier_budget.proofs.Writes.{written, body_written, has_place}
 use Rattle.tier_budget.proofs.SoundLaws.{sound_of_view, sound_moved, sound-arrived}
 use Rattle.tier_budget.proofs.LeavingSteps.{leaving_moved, leaving_of_view, leaving-arrived}
+use Rattle.tier_budget.proofs.MissingSteps.{missing_moved, missing_of_view, missing-arrived}
 use Rattle.tier_budget.proofs.tiers.Tier.arrive.Goals as goal
 
 pub index_mut-requires : goal.index_mut-requires
@@ -35,11 +36,14 @@ invariant_of-self c =
     let old = c.args.self.now.state in
     let sound = sound_of_view (tier_view c.self.inside) c.args.self.now c.self.inside.load c.self.inside.pinned_bytes c.self.inside.held_count c.self.inside.coming.cap c.self.view_is c.self.invariant.sound in
     let heap = leaving_of_view (tier_view c.self.inside) c.args.self.now c.self.inside.leaving c.self.view_is c.self.invariant.leaving in
+    let absent = missing_of_view (tier_view c.self.inside) c.args.self.now c.self.inside.missing c.self.view_is c.self.invariant.missing in
     record {
       sound = sound_moved (arrived old c.args.body.value.patch c.args.body.value) _ _ _ _ _ _ _ _ _ (returns-clause-state c) refl refl refl refl
           (sound-arrived old c.args.body.value.patch c.args.body.value _ _ _ _ sound c.requires.needs c.requires.body);
       leaving = leaving_moved (arrived old c.args.body.value.patch c.args.body.value) _ _ (returns-clause-state c)
           (leaving-arrived old c.args.body.value.patch c.args.body.value c.self.inside.leaving heap);
+      missing = missing_moved (arrived old c.args.body.value.patch c.args.body.value) _ _ (returns-clause-state c)
+          (missing-arrived old c.args.body.value.patch c.args.body.value c.self.inside.missing absent);
     }
 
 pub returns-clause-kept : goal.returns-clause-kept

@@ -8,6 +8,7 @@ use Rattle.tier_budget.proofs.Equations.{calmed_is}
 use Rattle.tier_budget.proofs.Writes.{as_many}
 use Rattle.tier_budget.proofs.SoundLaws.{sound_moved, sound-calmed}
 use Rattle.tier_budget.proofs.LeavingSteps.{told_same, leaving_moved, leaving-calmed}
+use Rattle.tier_budget.proofs.MissingSteps.{missing_moved, missing-calmed}
 use Rattle.tier_budget.proofs.tiers.Tier.calm.Goals as goal
 
 pub put_back-requires : goal.put_back-requires
@@ -36,6 +37,7 @@ invariant_of-self c =
       sound = sound_moved (calmed s) _ _ _ _ _ _ _ _ _ (is_calmed c) refl refl refl refl (sound-calmed s _ _ _ _ c.self.invariant.sound);
       leaving = leaving_moved (calmed s) _ _ (is_calmed c)
           (leaving-calmed s c.listed.result.now told c.self.inside.leaving c.put_back.new.leaving c.listed.ensures is_told c.put_back.ensures c.self.invariant.leaving);
+      missing = missing_moved (calmed s) _ _ (is_calmed c) (missing-calmed s c.self.inside.missing c.self.invariant.missing);
     }
 
 pub returns-clause-kept : goal.returns-clause-kept

@@ -6,7 +6,7 @@ use Rattle.std.specs.Arc.{arc_value}
 use Rattle.tier_model.specs.declared.turns.Coming.{Coming}
 use Rattle.tier_model.specs.Places.{is_marked, first_coming}
 use Rattle.tier_model.specs.Tiers.{TierState, count}
-use Rattle.tier_model.specs.ComingLaws.{first_comes}
+use Rattle.tier_model.specs.ComingLaws.{first_comes, all_are_full}
 use Rattle.tier_model.specs.TierLaws.{comes_within}
 use Rattle.tier_model.specs.Changes.{committed}
 use Rattle.tier_budget.specs.Heads.{bodies_in}
@@ -16,6 +16,7 @@ use Rattle.tier_budget.proofs.Equations.{committed_is}
 use Rattle.tier_budget.proofs.Writes.{body_written, body_read, has_place, has_item, at_some}
 use Rattle.tier_budget.proofs.SoundLaws.{sound_of_view, sound_moved, sound-committed}
 use Rattle.tier_budget.proofs.LeavingSteps.{told_same, leaving_moved, leaving_of_view, leaving-committed}
+use Rattle.tier_budget.proofs.MissingSteps.{missing_moved, missing_of_view, missing-committed}
 use Rattle.tier_budget.proofs.tiers.Tier.commit.Goals as goal
 use Rattle.tier_budget.proofs.tiers.Tier.commit.Goals.{In-Some}
 
@@ -96,11 +97,15 @@ invariant_of-self c =
     let old = c.args.self.now.state in
     let sound = sound_of_view (tier_view c.self.inside) c.args.self.now c.self.inside.load c.self.inside.pinned_bytes c.self.inside.held_count c.self.inside.coming.cap c.self.view_is c.self.invariant.sound in
     let heap = leaving_of_view (tier_view c.self.inside) c.args.self.now c.self.inside.leaving c.self.view_is c.self.invariant.leaving in
+    let comes = first_comes old.coming c.in-Some.patch (first_of_old c) in
+    let came = sym (sound.tier.coming.arrived c.in-Some.patch) ∙ all_are_full old.coming c.in-Some.patch c.requires.bodies comes in
+    let absent = missing_of_view (tier_view c.self.inside) c.args.self.now c.self.inside.missing c.self.view_is c.self.invariant.missing in
     record {
       sound = sound_moved (committed old c.in-Some.patch) _ _ _ _ _ _ _ _ _ (is_committed c) refl refl refl c.take_out.ensures.capacity
           (sound-committed old c.in-Some.patch _ _ _ _ sound (first_of_old c, c.requires.bodies));
       leaving = leaving_moved (committed old c.in-Some.patch) _ _ (is_committed c)
           (rw c.set.ensures (leaving-committed old c.in-Some.patch c.rank_to_leave-rank.result c.self.inside.leaving (is_told c) heap));
+      missing = missing_moved (committed old c.in-Some.patch) _ _ (is_committed c) (missing-committed old c.in-Some.patch c.self.inside.missing sound.tier (comes_within old c.in-Some.patch sound.tier comes) comes came absent);
     }
 
 pub returns-clause-state : goal.returns-clause-state

@@ -8,13 +8,14 @@ use Rattle.tier_model.specs.Places.{is_marked}
 use Rattle.tier_model.specs.Tiers.{TierState, count}
 use Rattle.tier_model.specs.Changes.{ranked}
 use Rattle.tier_budget.specs.Heads.{bodies_in}
-use Rattle.tier_budget.specs.Heaps.{leaving_told, leaving_at, IsHeapOf}
+use Rattle.tier_budget.specs.Heaps.{leaving_told, leaving_at, missing_told, missing_at, IsHeapOf}
 use Rattle.tier_budget.specs.TierView.{TierSeen, state_of}
 use Rattle.tier_budget.proofs.Equations.{ranked_is}
 use Rattle.tier_budget.proofs.Writes.{written, as_many}
 use Rattle.tier_budget.proofs.SoundLaws.{sound_moved, sound-ranked}
 use Rattle.tier_budget.proofs.HeapSteps.{heap_kept}
 use Rattle.tier_budget.proofs.LeavingSteps.{told_same}
+use Rattle.tier_budget.proofs.MissingSteps.{told_same as seen_same}
 use Rattle.tier_budget.proofs.tiers.Tier.rank.Goals as goal
 use Rattle.tier_budget.proofs.tiers.Tier.rank.Goals.{After-copy_wishes}
 use Rattle.tier_budget.proofs.tiers.Tier.rank.Given.{Over}
@@ -51,12 +52,30 @@ invariant_of-self g c =
     let wish = g.W.Wishes.wish_of c.args.wishes.now in
     let now = (with_items c.self.inside.wishes c.copy_wishes.new.kept).items in
     let told = λ (p : ℕ). leaving_told (bodies_in c.deref.result.now) c.deref-2.result.now (is_marked s.passed p) c.deref-3.result.now p in
+    let absent = λ (p : ℕ). missing_told c.deref-4.result.now c.deref-5.result.now (bodies_in c.deref-6.result.now) c.deref-7.result.now (is_marked s.aside p) p in
     record {
       sound = sound_moved (ranked s wish) _ _ _ _ _ _ _ _ _ (ranked_is s wish now (wishes_are g (goal.at.invariant_of-self g c).After-copy_wishes)) refl refl refl refl (sound-ranked s wish _ _ _ _ c.self.invariant.sound);
       leaving = heap_kept (count s) told (leaving_at (record s { wishes = now })) c.rank_leaving.new.leaving
           (λ p within. told_same _ s.held _ s.pinned _ (is_marked s.passed p) _ now p (ap bodies_in c.deref.ensures.value) c.deref-2.ensures.value refl c.deref-3.ensures.value)
           (subst (λ (n : ℕ). IsHeapOf n told c.rank_leaving.new.leaving) c.self.invariant.leaving.all_patches c.rank_leaving.ensures);
+      missing = heap_kept (count s) absent (missing_at (record s { wishes = now })) c.rank_missing.new.missing
+          (λ p within. seen_same _ now _ s.base _ s.held _ s.coming _ (is_marked s.aside p) p c.deref-4.ensures.value c.deref-5.ensures.value (ap bodies_in c.deref-6.ensures.value) c.deref-7.ensures.value refl)
+          (subst (λ (n : ℕ). IsHeapOf n absent c.rank_missing.new.missing) c.self.invariant.missing.all_patches c.rank_missing.ensures);
     }
 
 pub returns-clause-kept : goal.returns-clause-kept
 returns-clause-kept g c = (invariant_of-self g c).sound.tier
+
+pub rank_missing-requires : goal.rank_missing-requires
+rank_missing-requires g c =
+    let sized = c.self.invariant.sound.tier.sized in
+    let many = c.self.invariant.missing.all_patches in
+    let few = c.self.invariant.sound.few in
+    record {
+      few = omega arith;
+      wishes = ap length (c.deref-4.ensures.value ∙ wishes_are g (goal.at.rank_missing-requires g c).After-copy_wishes)
+          ∙ length-map (range_with_len 0 (count (state_of c.self.inside))) (g.W.Wishes.wish_of c.args.wishes.now) ∙ length-range_with_len 0 (count (state_of c.self.inside)) ∙ sym many;
+      base = ap length c.deref-5.ensures.value ∙ sized.base ∙ sym many;
+      held = as_many c.self.inside.held.items c.deref-6.result.now _ c.deref-6.ensures.value sized.held ∙ sym many;
+      aside = sized.aside ∙ sym many;
+    }
