@@ -1,5 +1,5 @@
 -- The greatest of the heap of the missing patches that fits is the highest that is missing and fits.
-use Rattle.std.proofs.Common.{◌≡◌, ◌≢◌, ℕ, ◌<◌, ◌⊎◌, inl, inr, Bool, true, false, not, ◌&&◌, List, length, Option, Some, None, MatchOption, IfNone, IfSome, refl, sym, ap, subst, ◌∙◌, arith}
+use Rattle.std.proofs.Common.{◌≡◌, ℕ, ◌<◌, inl, inr, Bool, true, false, List, Option, Some, None, IfNone, IfSome, refl, sym, ap, subst, ◌∙◌, arith}
 use Rattle.std.specs.Prelude.{cond}
 use Rattle.std.proofs.lemmas.Bool.{cases_Bool}
 use Rattle.std.proofs.lemmas.Option.{same_Some}
@@ -8,7 +8,7 @@ use Rattle.tier_heap.specs.Laws.{id_in_range}
 use Rattle.tier_model.specs.Tiers.{TierState, count, kept_wish}
 use Rattle.tier_model.specs.Ranks.{outranks}
 use Rattle.tier_model.specs.Choices.{IsTopmostBy, ChoosesBy, OrAnswers, is_missing}
-use Rattle.tier_budget.specs.Heaps.{missing_at, IsHeapOf, IsMissing}
+use Rattle.tier_budget.specs.Heaps.{IsMissing}
 
 or_refused : (asked : Bool) (answers : Bool → Type 0) → asked ≡ false → OrAnswers asked answers false
 or_refused asked answers not_asked = subst (λ (b : Bool). OrAnswers b answers false) (sym not_asked) refl

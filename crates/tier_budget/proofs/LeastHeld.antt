@@ -1,15 +1,15 @@
 -- The least of the heap of the patches that may leave, where it is below the given patch, is the lowest that may leave.
-use Rattle.std.proofs.Common.{◌≡◌, ◌≢◌, ℕ, ◌<◌, inl, inr, Bool, true, false, not, ◌&&◌, List, length, Option, Some, None, IsSome, refl, sym, ap, subst, ◌∙◌, arith}
-use Rattle.std.proofs.lemmas.Bool.{cases_eq, cases_lt, cases_Bool, both_ways}
+use Rattle.std.proofs.Common.{◌≡◌, ◌≢◌, ℕ, ◌<◌, inl, inr, Bool, true, false, not, ◌&&◌, List, Option, Some, None, refl, sym, subst, ◌∙◌, arith}
+use Rattle.std.proofs.lemmas.Bool.{cases_eq, cases_Bool, both_ways}
 use Rattle.std.proofs.lemmas.Option.{same_Some}
-use Rattle.tier_heap.specs.Entries.{rank_at, is_above, IsEmpty, IsLeast}
+use Rattle.tier_heap.specs.Entries.{is_above, IsEmpty, IsLeast}
 use Rattle.tier_heap.specs.Laws.{id_in_range}
 use Rattle.tier_model.specs.Places.{is_marked}
 use Rattle.tier_model.specs.Tiers.{TierState, count, kept_wish, is_held}
-use Rattle.tier_model.specs.Ranks.{outranks, IsRanking}
-use Rattle.tier_model.specs.RankLaws.{outranks_is_ranking, outranks_never_itself}
-use Rattle.tier_model.specs.Choices.{IsTopmost, Chooses, may_leave}
-use Rattle.tier_budget.specs.Heaps.{leaving_rank, leaving_at, IsHeapOf, IsLeaving}
+use Rattle.tier_model.specs.Ranks.{outranks}
+use Rattle.tier_model.specs.RankLaws.{outranks_is_ranking}
+use Rattle.tier_model.specs.Choices.{IsTopmost, may_leave}
+use Rattle.tier_budget.specs.Heaps.{leaving_rank, IsLeaving}
 
 -- a patch that may leave has its wish for a rank
 ranked_if_may : (held pinned passed below : Bool) (wish : ℕ) → (held && (not pinned && (not passed && below))) ≡ true → (leaving_rank held pinned passed wish ≡ Some wish) × (below ≡ true)

@@ -1,19 +1,18 @@
 -- The heap of the patches that may leave goes along with each change of the tier.
-use Rattle.std.proofs.Common.{◌≡◌, ◌≢◌, ℕ, zero, suc, ◌+◌, ◌<◌, ◌≤◌, inl, inr, Bool, true, false, not, ◌&&◌, List, length, map, replicate, Option, Some, None, is_some, refl, sym, ap, subst, ◌∙◌, arith}
+use Rattle.std.proofs.Common.{◌≡◌, ℕ, zero, suc, ◌<◌, inl, inr, Bool, true, false, List, length, replicate, Option, Some, None, is_some, refl, sym, ap, subst, ◌∙◌, arith}
 use Rattle.std.specs.Prelude.{slice_get, slice_index, slice_index_or, slice_set}
-use Rattle.std.proofs.lemmas.Bool.{cases_eq, cases_Bool, both_ways}
+use Rattle.std.proofs.lemmas.Bool.{cases_eq, cases_Bool}
 use Rattle.std.proofs.lemmas.List.{length-map, get_or-set_same, get_or-set_other, get_or-replicate, length-replicate}
 use Rattle.file_model.specs.Lists.{IndexLists, SeenBody, body_size}
-use Rattle.tier_heap.specs.Entries.{rank_at}
 use Rattle.tier_heap.specs.Laws.{rank_at-replicate}
 use Rattle.tier_model.specs.declared.turns.Abort.{Abort}
 use Rattle.std.proofs.lemmas.Option.{slice_get_within}
 use Rattle.tier_model.specs.BodyLaws.{away_not_there}
 use Rattle.tier_model.specs.Places.{is_marked}
 use Rattle.tier_model.specs.Tiers.{TierState, count, kept_wish, is_held, IsTier}
-use Rattle.tier_model.specs.Changes.{fresh, reserved, arrived, aborted, committed, dropped, passed_over, calmed, renewed, ranked, with_pin}
+use Rattle.tier_model.specs.Changes.{fresh, reserved, arrived, aborted, committed, dropped, passed_over, calmed, with_pin}
 use Rattle.tier_budget.specs.Marked.{AreListed}
-use Rattle.tier_budget.specs.Heaps.{leaving_rank, leaving_told, leaving_at, IsHeapOf, IsLeaving, Refreshes}
+use Rattle.tier_budget.specs.Heaps.{leaving_rank, leaving_told, leaving_at, IsLeaving, Refreshes}
 use Rattle.tier_budget.specs.TierView.{TierSeen}
 use Rattle.tier_budget.proofs.HeapSteps.{heap_kept, heap_set}
 

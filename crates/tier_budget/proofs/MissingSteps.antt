@@ -1,21 +1,20 @@
 -- The heap of the patches that are missing goes along with each change of the tier.
-use Rattle.std.proofs.Common.{◌≡◌, ◌≢◌, ℕ, zero, suc, ◌+◌, ◌<◌, ◌≤◌, inl, inr, Bool, true, false, not, ◌&&◌, ltb, List, length, map, replicate, Option, Some, None, is_some, refl, sym, ap, subst, ◌∙◌, arith}
-use Rattle.std.specs.Prelude.{cond, slice_get, slice_index, slice_index_or, slice_set}
-use Rattle.std.proofs.lemmas.Bool.{cases_eq, cases_Bool, both_ways}
+use Rattle.std.proofs.Common.{◌≡◌, ◌≢◌, ℕ, ◌<◌, inl, inr, Bool, true, false, not, ◌&&◌, ltb, List, length, replicate, Option, Some, None, is_some, refl, sym, ap, subst, ◌∙◌, arith}
+use Rattle.std.specs.Prelude.{cond, slice_get, slice_index_or, slice_set}
+use Rattle.std.proofs.lemmas.Bool.{cases_eq, cases_Bool}
 use Rattle.std.proofs.lemmas.List.{length-map, get_or-set_same, get_or-set_other, get_or-replicate, length-replicate}
 use Rattle.std.proofs.lemmas.Option.{slice_get_within}
 use Rattle.file_model.specs.Lists.{IndexLists, SeenBody, body_size}
-use Rattle.tier_heap.specs.Entries.{rank_at}
 use Rattle.tier_heap.specs.Laws.{rank_at-replicate}
 use Rattle.tier_model.specs.declared.turns.Abort.{Abort}
 use Rattle.tier_model.specs.declared.turns.Abort.TheVariants as reasons
 use Rattle.tier_model.specs.declared.turns.Coming.{Coming}
 use Rattle.tier_model.specs.Places.{is_marked, is_coming}
-use Rattle.tier_model.specs.Tiers.{TierState, count, kept_wish, is_held, IsTier, base_marks}
+use Rattle.tier_model.specs.Tiers.{TierState, count, kept_wish, is_held, IsTier}
 use Rattle.tier_model.specs.Changes.{fresh, reserved, arrived, aside_after, aborted, committed, dropped, passed_over, none_marked, calmed, with_pin}
 use Rattle.tier_model.specs.ComingLaws.{reserved_comes, reserved_others, arrived_comes, gone_others}
 use Rattle.tier_budget.specs.Marked.{AreListed}
-use Rattle.tier_budget.specs.Heaps.{missing_rank, missing_told, missing_at, IsHeapOf, IsMissing, Refreshes}
+use Rattle.tier_budget.specs.Heaps.{missing_rank, missing_told, missing_at, IsMissing, Refreshes}
 use Rattle.tier_budget.specs.TierView.{TierSeen}
 use Rattle.tier_budget.proofs.HeapSteps.{heap_kept, heap_set}
 

@@ -1,8 +1,8 @@
 -- One more patch has its rank.
-use Rattle.std.proofs.Common.{◌<◌, false, length, refl, arith}
+use Rattle.std.proofs.Common.{false, refl, arith}
 use Rattle.std.specs.Prelude.{slice_index}
 use Rattle.tier_budget.specs.Heads.{bodies_in}
-use Rattle.tier_budget.specs.Heaps.{leaving_told, Refreshes}
+use Rattle.tier_budget.specs.Heaps.{leaving_told}
 use Rattle.tier_budget.proofs.HeapSteps.{refresh_none, refresh_more}
 use Rattle.tier_budget.proofs.leaving.put_back.Goals as goal
 

@@ -1,5 +1,5 @@
 -- One more patch isn't marked any more.
-use Rattle.std.proofs.Common.{◌≡◌, false, refl, ap, ◌∙◌, length, replicate, ◌<◌, arith}
+use Rattle.std.proofs.Common.{false, refl, ap, ◌∙◌, length, replicate, ◌<◌, arith}
 use Rattle.std.specs.Prelude.{slice_index}
 use Rattle.std.proofs.lemmas.List.{length-set}
 use Rattle.tier_budget.proofs.MarkSteps.{last_of_all, last_fewer, none_left}

@@ -1,8 +1,8 @@
 -- One more patch has its rank.
-use Rattle.std.proofs.Common.{◌<◌, false, length, refl, arith}
+use Rattle.std.proofs.Common.{false, refl, arith}
 use Rattle.std.specs.Prelude.{slice_index}
 use Rattle.tier_budget.specs.Heads.{bodies_in}
-use Rattle.tier_budget.specs.Heaps.{missing_told, Refreshes}
+use Rattle.tier_budget.specs.Heaps.{missing_told}
 use Rattle.tier_budget.proofs.HeapSteps.{refresh_none, refresh_more}
 use Rattle.tier_budget.proofs.missing.seek_again.Goals as goal
 

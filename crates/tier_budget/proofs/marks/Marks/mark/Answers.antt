@@ -1,7 +1,7 @@
 -- The patch is listed.
-use Rattle.std.proofs.Common.{◌≡◌, ◌<◌, false, length, sym, ap, subst, ◌∙◌, List, Bool, arith}
+use Rattle.std.proofs.Common.{◌≡◌, ◌<◌, false, length, sym, subst, ◌∙◌, List, Bool}
 use Rattle.std.proofs.lemmas.List.{get_or_default}
-use Rattle.std.specs.Prelude.{vec_len, vec_capacity}
+use Rattle.std.specs.Prelude.{vec_capacity}
 use Rattle.tier_model.specs.Places.{is_marked}
 use Rattle.tier_budget.proofs.MarkSteps.{room_for, marks_more}
 use Rattle.tier_budget.proofs.marks.Marks.mark.Goals as goal

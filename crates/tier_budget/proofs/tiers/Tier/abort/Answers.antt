@@ -3,7 +3,7 @@ use Rattle.std.proofs.Common.{◌≡◌, ◌-◌, ◌<◌, ◌≤◌, ℕ, List,
 use Rattle.tier_model.specs.declared.turns.Coming.{Coming}
 use Rattle.tier_model.specs.Places.{is_marked, first_bare}
 use Rattle.tier_model.specs.Tiers.{TierState, count, size}
-use Rattle.tier_model.specs.Changes.{aside_after, aborted}
+use Rattle.tier_model.specs.Changes.{aborted}
 use Rattle.tier_model.specs.ComingLaws.{bare_comes}
 use Rattle.tier_model.specs.TierLaws.{comes_within}
 use Rattle.tier_budget.specs.Heads.{bodies_in}

@@ -1,5 +1,5 @@
 -- No patch is marked any more, and the marked ones are back in the heap.
-use Rattle.std.proofs.Common.{◌≡◌, ◌<◌, ℕ, false, length, replicate, refl, sym, ap, ◌∙◌, arith}
+use Rattle.std.proofs.Common.{◌≡◌, ℕ, false, length, replicate, refl, sym, ap, ◌∙◌, arith}
 use Rattle.tier_model.specs.Changes.{calmed}
 use Rattle.tier_budget.specs.Heads.{bodies_in}
 use Rattle.tier_budget.specs.Heaps.{leaving_told}

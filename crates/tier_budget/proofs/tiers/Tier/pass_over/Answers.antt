@@ -1,5 +1,5 @@
 -- The patch is marked, and not in the heap.
-use Rattle.std.proofs.Common.{◌≡◌, ◌<◌, length, refl, ap, ◌∙◌, arith}
+use Rattle.std.proofs.Common.{refl, ap, ◌∙◌, arith}
 use Rattle.tier_model.specs.Changes.{passed_over}
 use Rattle.tier_budget.specs.TierView.{TierSeen, state_of, tier_view}
 use Rattle.tier_budget.proofs.Equations.{passed_over_is}

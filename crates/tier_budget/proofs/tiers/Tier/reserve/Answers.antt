@@ -1,5 +1,5 @@
 -- The patch is the last of those that come.
-use Rattle.std.proofs.Common.{◌+◌, ◌<◌, length, ap, ◌∙◌, refl, arith}
+use Rattle.std.proofs.Common.{◌+◌, ap, ◌∙◌, refl, arith}
 use Rattle.tier_model.specs.Tiers.{size}
 use Rattle.tier_model.specs.Changes.{reserved}
 use Rattle.tier_budget.specs.TierView.{TierSeen, state_of, tier_view}
