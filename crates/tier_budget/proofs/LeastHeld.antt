@@ -1,8 +1,8 @@
 -- The least of the heap of the patches that may leave, where it is below the given patch, is the lowest that may leave.
-use Rattle.std.proofs.Common.{◌≡◌, ◌≢◌, ℕ, ◌<◌, inl, inr, Bool, true, false, not, ◌&&◌, List, Option, Some, None, refl, sym, subst, ◌∙◌, arith}
+use Rattle.std.proofs.Common.{◌≡◌, ◌≢◌, ℕ, ◌<◌, inl, inr, Bool, true, false, not, ◌&&◌, List, Option, Some, refl, sym, subst, ◌∙◌, arith}
 use Rattle.std.proofs.lemmas.Bool.{cases_eq, cases_Bool, both_ways}
 use Rattle.std.proofs.lemmas.Option.{same_Some}
-use Rattle.tier_heap.specs.Entries.{is_above, IsEmpty, IsLeast}
+use Rattle.tier_heap.specs.Entries.{is_above, IsLeast}
 use Rattle.tier_heap.specs.Laws.{id_in_range}
 use Rattle.tier_model.specs.Places.{is_marked}
 use Rattle.tier_model.specs.Tiers.{TierState, count, kept_wish, is_held}
@@ -24,15 +24,6 @@ may_if_ranked false pinned passed below wish rank is = absurd (cc)
 may_if_ranked true true passed below wish rank is = absurd (cc)
 may_if_ranked true false true below wish rank is = absurd (cc)
 may_if_ranked true false false below wish rank is = (refl, same_Some wish rank is)
-
-pub none_may_leave : (s : TierState) (heap : List (Option ℕ)) (below : ℕ) → IsLeaving s heap → IsEmpty heap → (q : ℕ) → q < count s → may_leave s below q ≡ false
-none_may_leave s heap below is empty q within = elim (cases_Bool (may_leave s below q)) [
-  | inr never ↦ never
-  | inl may ↦
-      let ranked = ranked_if_may (is_held s q) (is_marked s.pinned q) (is_marked s.passed q) (outranks (kept_wish s) below q) (kept_wish s q) may in
-      let none : None ≡ Some (kept_wish s q) = sym (empty q) ∙ is.each q within ∙ ranked.0 in
-      absurd (cc)
-]
 
 -- what is told of the least entry
 record IsLowest (s : TierState) (below p : ℕ) : Type 0 where
@@ -70,6 +61,3 @@ least_stays s heap below p is least under q within = elim (cases_Bool (may_leave
         | inr ne ↦ ranking.chain below q p over (low.under q within may ne)
       ]))
 ]
-
-pub least_within : (s : TierState) (heap : List (Option ℕ)) (p : ℕ) → IsLeaving s heap → IsLeast heap p → p < count s
-least_within s heap p is least = let there = id_in_range heap p (rw least.entry refl) in let many = is.all_patches in omega arith

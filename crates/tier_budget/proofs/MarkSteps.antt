@@ -1,5 +1,5 @@
 -- Marks are listed, set and taken.
-use Rattle.std.proofs.Common.{◌≡◌, ℕ, zero, suc, ◌+◌, ◌<◌, ◌≤◌, inl, inr, Bool, true, false, List, [], ◌∷◌, ◌++◌, length, replicate, refl, sym, ap, subst, ◌∙◌, arith}
+use Rattle.std.proofs.Common.{◌≡◌, ℕ, ◌+◌, ◌<◌, ◌≤◌, inl, inr, Bool, true, false, List, [], ◌∷◌, ◌++◌, length, replicate, refl, sym, ap, subst, ◌∙◌, arith}
 use Rattle.std.specs.Prelude.{cond, slice_index, slice_index_or, slice_set}
 use Rattle.std.specs.List.{count_by}
 use Rattle.std.proofs.lemmas.Bool.{cases_eq, cases_lt, cases_Bool, both_ways}
@@ -116,20 +116,3 @@ none_left marks listed n past last =
       | inl marked ↦ absurd (let among = last.every i marked in let within_list = among.within in let later = among.later in omega arith)
       | inr unmarked ↦ unmarked ∙ sym (get_or-replicate (length marks) i false false within)
     ])
-
-count_none : (n : ℕ) → count_by (λ m. m) (replicate n false) ≡ 0
-count_none zero = refl
-count_none (suc n) = count_none n
-
-none_marked : (n p : ℕ) → is_marked (replicate n false) p ≡ true → ⊥
-none_marked n p marked =
-    let within : p < n = subst (λ (k : ℕ). p < k) (length-replicate n false) (marked_in_range (replicate n false) p marked) in
-    both_ways (is_marked (replicate n false) p) (get_or-replicate n p false false within) marked
-
--- marks of which none is set
-pub marks_none : (marks : List Bool) (listed : List ℕ) (room n : ℕ) → marks ≡ replicate n false → listed ≡ [] → n ≤ room → AreMarks marks listed room
-marks_none marks listed room n none empty roomy = rw (none, empty) (record {
-  are_listed = record { patches = λ i less. absurd (omega arith); every = λ p marked. absurd (none_marked n p marked) };
-  once = sym (count_none n);
-  roomy = let many = length-replicate n false in omega arith;
-})
