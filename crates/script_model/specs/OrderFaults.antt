@@ -3,7 +3,7 @@ use Rattle.std.specs.Prelude.{ℕ, Bool, true, false, not, ◌&&◌, nat_le, Opt
 use Rattle.file_model.specs.Rules.{is_between}
 use Rattle.text_model.specs.declared.faults.ScriptFault.{ScriptFault}
 use Rattle.text_model.specs.declared.faults.ScriptFault.TheVariants.{SessionOut, AlreadyThere, NotThere, NoView, NoTier, PlayOnly}
-use Rattle.script_model.specs.declared.limits.TheConstants.{SESSIONS}
+use Rattle.token_words.specs.declared.session_sets.TheConstants.{SESSIONS}
 use Rattle.script_model.specs.declared.modes.Mode.{Mode}
 use Rattle.script_model.specs.declared.modes.Mode.TheVariants as modes
 use Rattle.script_model.specs.declared.orders.Order.{Order}
@@ -16,7 +16,7 @@ abbrev pub is_there_with : (ℕ → Bool) → Option ℕ → Bool
 is_there_with test None = false
 is_there_with test (Some n) = test n
 
--- names a session whose number isn't 1 to 64
+-- names a session whose number isn't 1 to the greatest
 abbrev pub names_no_session : Order → Bool
 names_no_session order = is_there_with (λ session. not (is_between 1 SESSIONS session)) (session_of order)
 

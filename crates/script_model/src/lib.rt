@@ -22,7 +22,7 @@ ghost use Rattle.script_model.specs.Scripts.{script_in, are_lines_from, AreLines
 ghost use Rattle.script_model.specs.ScriptLaws.{StandsFirst};
 
 pub use commands::Command;
-pub use limits::{MOST_SCRIPT, SESSIONS};
+pub use limits::MOST_SCRIPT;
 pub use modes::Mode;
 pub use orders::{Line, Order};
 pub use stages::SessionStage;

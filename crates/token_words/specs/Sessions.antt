@@ -3,10 +3,11 @@ use Rattle.std.specs.Prelude.{◌≡◌, ℕ, zero, suc, ◌+◌, ◌≤◌, Boo
 use Rattle.std.specs.Int.{bit_at}
 use Rattle.std.proofs.Common.{refl, inl, inr, arith}
 use Rattle.std.proofs.Math.Nat.{eq-or-lt_of_le}
+use Rattle.token_words.specs.declared.session_sets.TheConstants.{SESSIONS}
 
--- a session has a number from 1 to 64
+-- a session has a number from 1 to the greatest
 abbrev pub IsSession : ℕ → Type 0
-IsSession session = (1 ≤ session) × (session ≤ 64)
+IsSession session = (1 ≤ session) × (session ≤ SESSIONS)
 
 -- whether a mask has a session: session s is bit s - 1
 abbrev pub has_session : ℕ → ℕ → Bool
@@ -20,7 +21,7 @@ count_to (suc last) is_in = count_to last is_in + (if is_in (suc last) then 1 el
 
 -- how many sessions are in the set
 unfoldable pub session_count : (ℕ → Bool) → ℕ
-session_count is_in = count_to 64 is_in
+session_count is_in = count_to SESSIONS is_in
 
 -- each session in a mask is in another one
 abbrev pub IsWithin : ℕ → ℕ → Type 0
@@ -37,7 +38,7 @@ none_to (suc last) is_in none_in =
 -- where no session is in the set, the count is 0
 pub session_count-none : (is_in : ℕ → Bool) → ((s : ℕ) → IsSession s → is_in s ≡ false) → session_count is_in ≡ 0
 unfolding session_count
-session_count-none is_in none_in = none_to 64 is_in (λ s from to. none_in s (from, to))
+session_count-none is_in none_in = none_to SESSIONS is_in (λ s from to. none_in s (from, to))
 
 no_one : (before : ℕ) (is_in : Bool) → before + (if is_in then 1 else 0) ≡ 0 → (before ≡ 0) × (is_in ≡ false)
 no_one before true empty = absurd (omega arith)
@@ -56,4 +57,4 @@ to_none (suc last) is_in empty s from to =
 -- where the count is 0, no session is in the set
 pub none-session_count : (is_in : ℕ → Bool) → session_count is_in ≡ 0 → (s : ℕ) → IsSession s → is_in s ≡ false
 unfolding session_count
-none-session_count is_in empty s is = to_none 64 is_in empty s is.0 is.1
+none-session_count is_in empty s is = to_none SESSIONS is_in empty s is.0 is.1

@@ -18,3 +18,4 @@ pub use entries::Word;
 pub use keeping::{Keeper, LAST_EPOCH, NoWords};
 pub use locking::Tokens;
 pub use plain_words::{PlainPass, PlainTokens};
+pub use session_sets::SESSIONS;

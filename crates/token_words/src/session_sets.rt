@@ -2,9 +2,13 @@
 
 ghost use Rattle.std.specs.Prelude.{◌≡◌, ◌≤◌, true, false};
 ghost use Rattle.token_words.specs.Changes.{SetAt};
+ghost use Rattle.token_words.specs.declared.session_sets.TheConstants.{SESSIONS};
 ghost use Rattle.token_words.specs.Sessions.{IsSession, has_session, session_count};
 
-/// A set of sessions, whose numbers are 1 to 64. Session s is bit s - 1.
+/// The greatest number of a session; the least is 1.
+pub const SESSIONS: u32 = 64;
+
+/// A set of sessions, whose numbers are 1 to `SESSIONS`. Session s is bit s - 1.
 #[derive(Clone, Copy)]
 pub struct SessionSet {
     pub mask: u64,
@@ -30,7 +34,7 @@ impl SessionSet {
 
     pub fn len(&self) -> u32
         ensures count { result ≡ session_count (has_session self.now.mask) }
-        ensures most { result ≤ 64 }
+        ensures most { result ≤ SESSIONS }
     {
         let mask = self.mask;
         mask.count_ones()

@@ -13,7 +13,7 @@ mod views;
 mod words;
 
 pub use refusals::ScriptRefusal;
-pub use script_model::{Line, MOST_SCRIPT, Mode, Order, SESSIONS};
+pub use script_model::{Line, MOST_SCRIPT, Mode, Order};
 pub use scripts::{Script, read_script};
 
 #[cfg(test)]

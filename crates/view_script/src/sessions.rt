@@ -6,7 +6,8 @@ ghost use Rattle.script_model.specs.Histories.{no_sessions, is_open, is_viewed, 
 ghost use Rattle.script_model.specs.OrderFaults.{names_no_session, is_opening, opens_again, names_closed, needs_view, lacks_view, names_no_tier, is_play_only, is_left_out, order_fault};
 ghost use Rattle.view_script.specs.Stages.{history_of};
 
-use script_model::{Mode, Order, SESSIONS, SessionStage};
+use script_model::{Mode, Order, SessionStage};
+use token_words::SESSIONS;
 use text_model::ScriptFault;
 
 /// The stage of each session by its number; 0 is no session's.

@@ -4,7 +4,7 @@ use Rattle.std.specs.Option.{option_map_or}
 use Rattle.file_model.specs.declared.fields.PatchField.{PatchField}
 use Rattle.mesh_model.specs.Meshes.{MeshLists}
 use Rattle.tier_model.specs.Ranks.{Posted, node_wish, wish_of}
-use Rattle.wish_board.specs.declared.views.TheConstants.{SESSIONS}
+use Rattle.token_words.specs.declared.session_sets.TheConstants.{SESSIONS}
 use Rattle.wish_board.specs.Boards.{BoardSeen, Fits, board_wish, view_of, empty_board, with_view, without_view}
 
 pub fits_empty : (mesh : MeshLists) → Fits (empty_board mesh) mesh

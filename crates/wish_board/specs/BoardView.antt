@@ -3,7 +3,7 @@ use Rattle.std.specs.Prelude.{◌≡◌, ℕ, List, length}
 use Rattle.std.specs.List.{AllByRecursion}
 use Rattle.frame_laws.specs.Ends.{HasEnds}
 use Rattle.wish_board.specs.declared.boards.WishBoard.TheInside.{Inside}
-use Rattle.wish_board.specs.declared.views.TheConstants.{SESSIONS}
+use Rattle.token_words.specs.declared.session_sets.TheConstants.{SESSIONS}
 use Rattle.wish_board.specs.Maxima.{AreScored, AreGreatest}
 use Rattle.wish_board.specs.Boards.{BoardSeen}
 

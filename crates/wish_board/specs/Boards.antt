@@ -3,7 +3,7 @@ use Rattle.std.specs.Prelude.{◌≡◌, ℕ, ◌+◌, ◌-◌, ◌%◌, ◌^◌
 use Rattle.file_model.specs.declared.fields.PatchField.{PatchField}
 use Rattle.mesh_model.specs.Meshes.{MeshLists}
 use Rattle.tier_model.specs.Ranks.{Posted, wish_of}
-use Rattle.wish_board.specs.declared.views.TheConstants.{SESSIONS}
+use Rattle.token_words.specs.declared.session_sets.TheConstants.{SESSIONS}
 
 -- how many nodes and which patches the board is for, the view that each session posted, session 1's
 -- first, and the version

@@ -9,9 +9,7 @@ use error_metric::Want;
 use grid_vertex::NoMemory;
 use std::alloc::Global;
 use std::marker::Model;
-
-/// How many sessions may post a view.
-pub const SESSIONS: usize = 64;
+use token_words::SESSIONS;
 
 /// Each node's score in a view, and the score that a node it wants is above.
 #[derive(Drop)]
@@ -66,7 +64,7 @@ fn scores_of<W: Want>(alloc: Global, mesh: &Mesh, want: &W) -> Result<Vec<u64>, 
 pub fn no_views(alloc: Global) -> Result<Vec<Option<PostedView>>, NoMemory>
     ensures { IfOk result (λ views. views.items ≡ no_posted) }
 {
-    let mut views = Vec::with_capacity(alloc, SESSIONS)?;
+    let mut views = Vec::with_capacity(alloc, SESSIONS as usize)?;
     for _session in 0..SESSIONS {
         views.push(None)?;
     }
