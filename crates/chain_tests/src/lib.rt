@@ -1,5 +1,4 @@
-//! Worked rows of chains of tiers, as tests: views are posted on a board, and the turns of a chain over a small
-//! file are those that were worked out by hand.
+//! Worked rows of chains of tiers, as tests over small files.
 #![tactic(auto)]
 
 #[cfg(test)]
