@@ -1,0 +1,1 @@
+-- A tier at rest that has room for all that is needed holds all that is wished and that the tier below has.

@@ -1,0 +1,77 @@
+-- Laws of needs: a tier's load is a sum over its patches, and changes keep base patches where they are.
+use Rattle.std.proofs.Common.{◌≡◌, ◌≢◌, ℕ, zero, suc, ◌+◌, ◌-◌, ◌<◌, ◌≤◌, Bool, true, false, not, ◌&&◌, ◌||◌, cond, List, [], ◌∷◌, length, map, Option, Some, None, is_some, refl, sym, ap, ap₂, subst, ◌∙◌, arith, inl, inr}
+use Rattle.std.specs.Prelude.{slice_get, slice_index, slice_index_or, slice_set}
+use Rattle.std.proofs.lemmas.Bool.{cases_eq, cases_Bool, cond_both, cond-true, cond-false, both_ways, false_from_ne_true, or_left}
+use Rattle.std.proofs.lemmas.List.{get_or-set_other}
+use Rattle.file_model.specs.Lists.{SeenBody}
+use Rattle.tier_model.specs.declared.turns.Abort.{Abort}
+use Rattle.tier_model.specs.declared.turns.Coming.{Coming}
+use Rattle.tier_model.specs.Places.{is_marked, is_coming, marked_bytes, coming_bytes, load_of}
+use Rattle.tier_model.specs.Tiers.{TierState, count, size, is_held, load, pinned_bytes, IsTier}
+use Rattle.tier_model.specs.Changes.{reserved, arrived, aborted, committed, dropped, passed_over, calmed}
+use Rattle.tier_model.specs.Choices.{Told}
+use Rattle.tier_model.specs.ComingLaws.{reserved_others, arrived_comes, gone_came}
+use Rattle.tier_model.specs.Follows.{Enters, Leaves}
+use Rattle.settling_laws.specs.Stages.{sum_below}
+use Rattle.detail_laws.specs.Needs.{is_needed, needed_bytes, KeepsBase}
+
+-- ---- sums
+
+pub sum_grows : (n : ℕ) (f g : ℕ → ℕ) → ((q : ℕ) → q < n → f q ≤ g q) → sum_below n f ≤ sum_below n g
+unfolding sum_below
+sum_grows zero f g grows = omega arith
+sum_grows (suc n) f g grows =
+    let here = grows n (omega arith) in
+    let rest = sum_grows n f g (λ q within. grows q (omega arith)) in
+    omega arith
+
+-- a sum grows by what one of its values grows by, at least
+pub sum_grows_at : (n c more : ℕ) (f g : ℕ → ℕ) → c < n → ((q : ℕ) → q < n → f q ≤ g q) → f c + more ≤ g c → sum_below n f + more ≤ sum_below n g
+unfolding sum_below
+sum_grows_at zero c more f g within grows here = absurd (omega arith)
+sum_grows_at (suc n) c more f g within grows here =
+    elim (cases_eq c n) [
+      | inl is ↦
+          let rest = sum_grows n f g (λ q below. grows q (omega arith)) in
+          let last = subst (λ (k : ℕ). f k + more ≤ g k) is here in
+          omega arith
+      | inr ne ↦
+          let rest = sum_grows_at n c more f g (omega arith) (λ q below. grows q (omega arith)) here in
+          let last = grows n (omega arith) in
+          omega arith
+    ]
+
+sum_from_first : (n : ℕ) (f : ℕ → ℕ) → sum_below (suc n) f ≡ f 0 + sum_below n (λ p. f (suc p))
+unfolding sum_below
+sum_from_first zero f = refl
+sum_from_first (suc n) f = let rest = sum_from_first n f in omega arith
+
+-- how many bytes the marked patches have, as a sum over all patches
+pub marked_is_sum : (sizes : List ℕ) (marks : List Bool) → marked_bytes sizes marks ≡ sum_below (length sizes) (λ p. cond (is_marked marks p) (slice_index sizes p) 0)
+unfolding marked_bytes sum_below
+marked_is_sum [] marks = refl
+marked_is_sum (n ∷ ns) [] =
+    let rest = marked_is_sum ns [] in
+    let none = nothing_marked ns in
+    let first = sum_from_first (length ns) (λ p. cond (is_marked [] p) (slice_index (n ∷ ns) p) 0) in
+    omega arith
+  where
+    nothing_marked : (sizes : List ℕ) → marked_bytes sizes [] ≡ 0
+    nothing_marked [] = refl
+    nothing_marked (m ∷ ms) = refl
+marked_is_sum (n ∷ ns) (m ∷ ms) =
+    let rest = marked_is_sum ns ms in
+    let first = sum_from_first (length ns) (λ p. cond (is_marked (m ∷ ms) p) (slice_index (n ∷ ns) p) 0) in
+    omega arith
+
+pub marks_of_held : (bodies : List (Option SeenBody)) (p : ℕ) → is_marked (map (λ o. is_some o) bodies) p ≡ is_some (slice_index_or bodies p None)
+marks_of_held [] p = refl
+marks_of_held (b ∷ bs) zero = refl
+marks_of_held (b ∷ bs) (suc p) = marks_of_held bs p
+
+-- where nothing comes, the load is what the held patches have
+pub load_at_rest : (s : TierState) → s.coming ≡ [] → load s ≡ marked_bytes s.sizes (map (λ o. is_some o) s.held)
+unfolding load_of coming_bytes
+load_at_rest s none =
+    let nothing : coming_bytes s.sizes s.coming ≡ 0 = ap (coming_bytes s.sizes) none in
+    omega arith

@@ -1,0 +1,1 @@
+-- Once a chain has settled its top tier holds all that is wished.
