@@ -1,5 +1,5 @@
 -- Laws of needs: a tier's load is a sum over its patches, and changes keep base patches where they are.
-use Rattle.std.proofs.Common.{◌≡◌, ◌≢◌, ℕ, zero, suc, ◌+◌, ◌-◌, ◌<◌, ◌≤◌, Bool, true, false, not, ◌&&◌, ◌||◌, cond, List, [], ◌∷◌, length, map, Option, Some, None, is_some, refl, sym, ap, ap₂, subst, ◌∙◌, arith, inl, inr}
+use Rattle.std.proofs.Common.{◌≡◌, ◌≢◌, ℕ, zero, suc, ◌+◌, ◌-◌, ◌<◌, ◌≤◌, Bool, true, false, not, ◌&&◌, ◌||◌, cond, ltb, List, [], ◌∷◌, length, map, Option, Some, None, is_some, refl, sym, ap, ap₂, subst, ◌∙◌, arith, inl, inr}
 use Rattle.std.specs.Prelude.{slice_get, slice_index, slice_index_or, slice_set}
 use Rattle.std.proofs.lemmas.Bool.{cases_eq, cases_Bool, cond_both, cond-true, cond-false, both_ways, false_from_ne_true, or_left}
 use Rattle.std.proofs.lemmas.List.{get_or-set_other}
@@ -74,4 +74,26 @@ pub load_at_rest : (s : TierState) → s.coming ≡ [] → load s ≡ marked_byt
 unfolding load_of coming_bytes
 load_at_rest s none =
     let nothing : coming_bytes s.sizes s.coming ≡ 0 = ap (coming_bytes s.sizes) none in
+    omega arith
+
+-- marked patches that are needed, and another that is, together have no more bytes than all that are needed
+pub room_beside : (s : TierState) (wish : ℕ → ℕ) (used : ℕ → Bool) (marks : List Bool) (p : ℕ) → p < count s → ((q : ℕ) → q < count s → is_marked marks q ≡ true → is_needed s wish used q ≡ true) → is_marked marks p ≡ false → is_needed s wish used p ≡ true → marked_bytes s.sizes marks + size s p ≤ needed_bytes s wish used
+room_beside s wish used marks p within needed unmarked here =
+    let sum = marked_is_sum s.sizes marks in
+    let grows = sum_grows_at (count s) p (size s p) (λ q. cond (is_marked marks q) (size s q) 0) (λ q. cond (is_needed s wish used q) (size s q) 0) within
+        (λ q below. no_more (is_marked marks q) (is_needed s wish used q) (size s q) (needed q below))
+        (let none = cond-false (is_marked marks p) (size s p) 0 unmarked in let all = cond-true (is_needed s wish used p) (size s p) 0 here in omega arith) in
+    omega arith
+  where
+    no_more : (b c : Bool) (n : ℕ) → (b ≡ true → c ≡ true) → cond b n 0 ≤ cond c n 0
+    no_more false c n implied = omega arith
+    no_more true c n implied = let all = cond-true c n 0 (implied refl) in omega arith
+
+-- needs go by sizes, base patches, pins and wishes alone
+pub needed_same : (s t : TierState) (wish other : ℕ → ℕ) (used : ℕ → Bool) → t.sizes ≡ s.sizes → t.base ≡ s.base → t.pinned ≡ s.pinned → ((p : ℕ) → p < count s → other p ≡ wish p) → needed_bytes t other used ≤ needed_bytes s wish used
+needed_same s t wish other used sizes base pinned same =
+    let bytes = λ (n : List ℕ) (b m : List Bool). sum_below (length n) (λ p. cond (is_marked m p || (not (is_marked b p) && (ltb 0 (other p) || used p))) (slice_index n p) 0) in
+    let is : needed_bytes t other used ≡ needed_bytes s other used = ap (λ (n : List ℕ). bytes n t.base t.pinned) sizes ∙ ap (λ (b : List Bool). bytes s.sizes b t.pinned) base ∙ ap (λ (m : List Bool). bytes s.sizes s.base m) pinned in
+    let grows = sum_grows (count s) (λ p. cond (is_needed s other used p) (size s p) 0) (λ p. cond (is_needed s wish used p) (size s p) 0)
+        (λ p within. let value = ap (λ (n : ℕ). cond (is_marked s.pinned p || (not (is_marked s.base p) && (ltb 0 n || used p))) (size s p) 0) (same p within) in omega arith) in
     omega arith

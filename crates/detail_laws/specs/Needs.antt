@@ -1,11 +1,13 @@
 -- What a tier needs room for, and what a settling must not meet, so that all that is wished comes.
-use Rattle.std.specs.Prelude.{◌≡◌, ℕ, ◌≤◌, Bool, true, false, not, ◌&&◌, ◌||◌, List, nat_lt, if◌then◌else◌}
+use Rattle.std.specs.Prelude.{◌≡◌, ℕ, ◌+◌, ◌<◌, ◌≤◌, Bool, true, false, not, ◌&&◌, ◌||◌, List, length, Some, nat_lt, slice_get, if◌then◌else◌}
 use Rattle.std.specs.List.{AllByRecursion}
+use Rattle.token_words.specs.declared.keeping.TheConstants.{LAST_EPOCH}
 use Rattle.tier_model.specs.declared.turns.Turn.{Turn}
 use Rattle.tier_model.specs.declared.turns.Turn.TheVariants.{Reserve, Evict, Kept, Got, Lost, Fault, Changed, Commit, Idle}
 use Rattle.tier_model.specs.Places.{is_marked, is_coming}
 use Rattle.tier_model.specs.Tiers.{TierState, count, size, is_held, IsTier}
 use Rattle.tier_model.specs.Turns.{Board}
+use Rattle.tier_model.specs.Chains.{Chain}
 use Rattle.tier_model.specs.TurnLaws.{KeepsWishes}
 use Rattle.settling_laws.specs.Stages.{sum_below}
 
@@ -51,3 +53,15 @@ GoesWell used Idle = Unit {0}
 -- so does each turn, of the tier whose number stands beside it
 abbrev pub GoWell : (ℕ → ℕ → Bool) → List (ℕ × Turn) → Type 0
 GoWell used log = AllByRecursion (λ (entry : ℕ × Turn). GoesWell (used entry.0) entry.1) log
+
+-- tier k holds the patch
+pub record IsHeldIn (tiers : List TierState) (k p : ℕ) : Type 0 where
+  pub tier : TierState
+  pub at : slice_get tiers k ≡ Some tier
+  pub holds : is_held tier p ≡ true
+
+-- the first n tiers are ready, and over the same base patches; no epoch is among the last three
+pub record AreReady (board : Board) (used : ℕ → ℕ → Bool) (base : List Bool) (n : ℕ) (a : Chain) : Type 0 where
+  pub each : (k : ℕ) (s : TierState) → k < n → slice_get a.tiers k ≡ Some s → IsReady board (used k) s
+  pub same_base : (k : ℕ) (s : TierState) → k < n → slice_get a.tiers k ≡ Some s → s.base ≡ base
+  pub low : (p : ℕ) → p < length base → a.epochs p + 2 < LAST_EPOCH
