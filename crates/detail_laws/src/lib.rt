@@ -3,3 +3,35 @@
 //! Code is only the laws' names, on functions that do nothing. The lemmas that lead to them stand in
 //! `specs/`.
 #![tactic(auto)]
+
+ghost use Rattle.std.specs.Prelude.{◌≡◌, ℕ, suc, ◌<◌, ◌≤◌, Bool, true, false, List, length};
+ghost use Rattle.tier_model.specs.declared.turns.Turn.{Turn};
+ghost use Rattle.tier_model.specs.Places.{is_marked};
+ghost use Rattle.tier_model.specs.Tiers.{TierState, count, kept_wish, is_held};
+ghost use Rattle.tier_model.specs.Choices.{Told};
+ghost use Rattle.tier_model.specs.Follows.{AtRest};
+ghost use Rattle.tier_model.specs.Turns.{Board};
+ghost use Rattle.tier_model.specs.Chains.{Chain, has_below};
+ghost use Rattle.tier_model.specs.Settling.{Settles};
+ghost use Rattle.detail_laws.specs.Needs.{GoWell, IsHeldIn, AreReady};
+ghost use Rattle.detail_laws.specs.Gathers.{Gathers};
+ghost use Rattle.detail_laws.specs.AtRest.{HasRoom};
+
+/// A tier at rest, in a settling that went well so far, holds each patch that is wished and that the tier below
+/// has, where there is room for all that is needed.
+pub fn a_tier_at_rest_holds_what_is_wished()
+    ensures holds { (told : Told) (s : TierState) (used spent : ℕ → Bool) (p : ℕ) → 1 ≤ s.width
+        → AtRest told s → Gathers told s used spent → HasRoom used s → p < count s
+        → is_marked s.base p ≡ false → 0 < kept_wish s p → told.has p ≡ true
+        → is_held s p ≡ true }
+{}
+
+/// Tiers settle, which have room for all that is wished, passed over or in use, where nothing is aside, epochs
+/// are low and no fetch faults. Then the top tier holds each wished patch that stands below these tiers.
+pub fn settling_brings_what_is_wished()
+    ensures holds { (board : Board) (used : ℕ → ℕ → Bool) (base : List Bool) (k : ℕ)
+        (a c : Chain) (log : List (ℕ × Turn)) → Settles board (suc k) a log c
+        → AreReady board used base (suc k) a → GoWell used log → (p : ℕ)
+        → p < length base → is_marked base p ≡ false → 0 < board.wish p
+        → has_below a.tiers k p ≡ true → IsHeldIn c.tiers 0 p }
+{}
