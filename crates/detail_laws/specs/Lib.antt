@@ -4,3 +4,6 @@ pub mod Gathers
 pub mod GatherLaws
 pub mod AtRest
 pub mod Settled
+pub mod Wanted
+pub mod FullRounds
+pub mod Reached

@@ -17,7 +17,7 @@ use Rattle.tier_model.specs.Chains.{Chain, has_below, is_top, told_at, epochs_th
 use Rattle.tier_model.specs.Settling.{TurnsAt, TurnsToIdle, Last, More, Settles, Settled, Tier}
 use Rattle.tier_model.specs.Follows.{AtRest, Follows, Reserves, Gets, Loses, Fails, Breaks, Commits, Evicts, Keeps, Rests}
 use Rattle.tier_model.specs.TierLaws.{IsTier-begun}
-use Rattle.tier_model.specs.TurnLaws.{IsAlike, alike-followed, begun_same, begun_places, begun_wishes, turn_follows, version-turned, IsTier-turned}
+use Rattle.tier_model.specs.TurnLaws.{IsAlike, alike-followed, begun_same, begun_places, begun_wishes, turn_follows, setup-turned, version-turned, IsTier-turned}
 use Rattle.tier_model.specs.ChainLaws.{tier_here, others_stay, epochs_stay}
 use Rattle.settling_laws.specs.FewTurns.{later_after}
 use Rattle.detail_laws.specs.Needs.{KeepsBase, IsCalm, IsReady, GoesWell, GoWell, IsHeldIn, AreReady}
@@ -227,3 +227,26 @@ settled-holds board used base (suc k) a c log (Tier {b = b} {log = first} {rest 
     let parts = well_parts used first rest well in
     let held = tier_brings board (suc k) a b first used p at.0 turns at.1 parts.0 (begins_to_bring board used base (suc k) a p at.0 ready at.1 within not_base wished there) in
     settled-holds board used base k b c rest later (ready_above board used base k a b first turns ready) parts.1 p within not_base wished (held_is_below b.tiers k p held)
+
+-- ---- as many patches as before
+
+count_turned : (board : Board) (k : ℕ) (answer : Turn) (a b : Chain) → TurnsAt board k answer a b → (s t : TierState) → slice_get a.tiers k ≡ Some s → slice_get b.tiers k ≡ Some t → count t ≡ count s
+count_turned board k answer a b turn s t was is =
+    ap (λ (u : TierState). count u) (same_Some t turn.after (sym is ∙ tier_here board k answer a b turn))
+    ∙ ap (λ (sizes : List ℕ). length sizes) (setup-turned board (told_at a k) turn.before answer turn.after turn.turns).sizes
+    ∙ ap (λ (u : TierState). count u) (same_Some turn.before s (sym turn.was ∙ was))
+
+to_idle_count : (board : Board) (k : ℕ) (a b : Chain) (log : List (ℕ × Turn)) → TurnsToIdle board k a log b → (s t : TierState) → slice_get a.tiers k ≡ Some s → slice_get b.tiers k ≡ Some t → count t ≡ count s
+to_idle_count board k a b log (Last turn) s t was is = count_turned board k Idle a b turn s t was is
+to_idle_count board k a c log (More {b = b} {log = later} answer on turn rest) s t was is =
+    to_idle_count board k b c later rest turn.after t (tier_here board k answer a b turn) is ∙ count_turned board k answer a b turn s turn.after was (tier_here board k answer a b turn)
+
+-- the top tier has as many patches as there are marks of base patches
+pub settled-count : (board : Board) (used : ℕ → ℕ → Bool) (base : List Bool) (n : ℕ) (a c : Chain) (log : List (ℕ × Turn)) → Settles board n a log c → AreReady board used base n a → (t : TierState) → slice_get c.tiers 0 ≡ Some t → 1 ≤ n → count t ≡ length base
+settled-count board used base zero a c log settles ready t is some = absurd (omega arith)
+settled-count board used base (suc zero) a c log (Tier {log = first} turns Settled) ready t is some =
+    let at = to_idle_first board zero a c first turns in
+    let here = ready.each zero at.0 (omega arith) at.1 in
+    to_idle_count board zero a c first turns at.0 t at.1 is ∙ sym here.is_tier.sized.base ∙ ap (λ (marks : List Bool). length marks) (ready.same_base zero at.0 (omega arith) at.1)
+settled-count board used base (suc (suc k)) a c log (Tier {b = b} {log = first} {rest = rest} turns later) ready t is some =
+    settled-count board used base (suc k) b c rest later (ready_above board used base k a b first turns ready) t is (omega arith)

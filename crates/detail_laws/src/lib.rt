@@ -5,6 +5,15 @@
 #![tactic(auto)]
 
 ghost use Rattle.std.specs.Prelude.{◌≡◌, ℕ, suc, ◌<◌, ◌≤◌, Bool, true, false, List, length};
+ghost use Rattle.std.specs.Prelude.{None};
+ghost use Rattle.std.specs.List.{AllByRecursion};
+ghost use Rattle.file_model.specs.declared.fields.Try.{Try};
+ghost use Rattle.mesh_model.specs.Meshes.{IsMesh};
+ghost use Rattle.round_model.specs.Order.{Rules};
+ghost use Rattle.round_model.specs.Rounds.{has, is_wanted, round_of};
+ghost use Rattle.round_laws.specs.Ascending.{IsInnerNode};
+ghost use Rattle.round_laws.specs.Cuts.{IsRootOrWanted};
+ghost use Rattle.round_laws.specs.Parents.{FallsAlong};
 ghost use Rattle.tier_model.specs.declared.turns.Turn.{Turn};
 ghost use Rattle.tier_model.specs.Places.{is_marked};
 ghost use Rattle.tier_model.specs.Tiers.{TierState, count, kept_wish, is_held};
@@ -14,6 +23,7 @@ ghost use Rattle.tier_model.specs.Turns.{Board};
 ghost use Rattle.tier_model.specs.Chains.{Chain, has_below};
 ghost use Rattle.tier_model.specs.Settling.{Settles};
 ghost use Rattle.detail_laws.specs.Needs.{GoWell, IsHeldIn, AreReady};
+ghost use Rattle.detail_laws.specs.Wanted.{FitsWanted, AreGranted, IsOfWanted, SettlesWell, IsRoundOf};
 ghost use Rattle.detail_laws.specs.Gathers.{Gathers};
 ghost use Rattle.detail_laws.specs.AtRest.{HasRoom};
 
@@ -34,4 +44,25 @@ pub fn settling_brings_what_is_wished()
         → AreReady board used base (suc k) a → GoWell used log → (p : ℕ)
         → p < length base → is_marked base p ≡ false → 0 < board.wish p
         → has_below a.tiers k p ≡ true → IsHeldIn c.tiers 0 p }
+{}
+
+/// Where the root and the wanted nodes fit, a round that is through with all its tries granted has every inner node
+/// in its set that the view wants. Whatever was answered, it tries patches of such nodes alone.
+pub fn a_granted_round_has_all_that_is_wanted()
+    ensures full { (rules : Rules) (answers : List ℕ) → IsMesh rules.mesh → FallsAlong rules
+        → FitsWanted rules → (round_of rules answers).at ≡ None
+        → AreGranted (round_of rules answers).tries → (v : ℕ) → IsInnerNode rules v
+        → is_wanted rules v ≡ true → has (round_of rules answers).set v ≡ true }
+    ensures wanted { (rules : Rules) (answers : List ℕ)
+        → AllByRecursion (λ (t : Try). IsOfWanted rules t.patch) (round_of rules answers).tries }
+{}
+
+/// A chain settles, with room for what is wished, and a round of a posted view follows. Then the round's cut is
+/// exactly the root and the nodes, other than root and sinks, that the view wants.
+pub fn settling_reaches_the_wanted_detail()
+    ensures reached { (rules : Rules) (board : Board) (used : ℕ → ℕ → Bool) (a c : Chain)
+        (log : List (ℕ × Turn)) (answers : List ℕ) → SettlesWell rules board used a c log
+        → IsRoundOf rules board c.epochs answers → (v : ℕ)
+        → (has (round_of rules answers).set v ≡ true → IsRootOrWanted rules v)
+        × (IsRootOrWanted rules v → has (round_of rules answers).set v ≡ true) }
 {}
