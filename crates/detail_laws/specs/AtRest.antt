@@ -1,23 +1,22 @@
 -- A tier at rest that has room for all that is needed holds all that is wished and that the tier below has.
-use Rattle.std.proofs.Common.{◌≡◌, ◌≢◌, ℕ, suc, ◌+◌, ◌-◌, ◌<◌, ◌≤◌, Bool, true, false, not, ◌&&◌, ◌||◌, leb, ltb, List, [], length, map, Option, Some, None, is_some, refl, sym, ap, subst, ◌∙◌, arith, inl, inr}
+use Rattle.std.proofs.Common.{◌≡◌, ◌≢◌, ℕ, ◌+◌, ◌<◌, ◌≤◌, Bool, true, false, not, ◌&&◌, ◌||◌, leb, ltb, List, [], length, map, Option, Some, None, is_some, refl, sym, ap, subst, ◌∙◌, arith, inl, inr}
 use Rattle.std.specs.Option.{option_and_then}
-use Rattle.std.proofs.lemmas.Bool.{cases_Bool, cases_lt, both_ways, cond-true, or_left, or_right, or_from, or_cases, and_from, not_from_false, false_from_ne_true, le-leb, lt-ltb}
+use Rattle.std.proofs.lemmas.Bool.{cases_Bool, cases_lt, both_ways, cond-true, or_left, or_right, or_from, and_from, not_from_false, false_from_ne_true, le-leb, lt-ltb}
 use Rattle.std.proofs.lemmas.Bool.Decides.{nat_tests}
-use Rattle.token_words.specs.declared.keeping.TheConstants.{LAST_EPOCH}
 use Rattle.tier_heap.specs.Entries.{is_above}
 use Rattle.tier_model.specs.declared.turns.Coming.{Coming}
-use Rattle.tier_model.specs.Places.{is_marked, is_coming, marked_bytes}
-use Rattle.tier_model.specs.Tiers.{TierState, count, size, kept_wish, is_held, load, pinned_bytes, IsTier}
+use Rattle.tier_model.specs.Places.{is_marked, is_coming}
+use Rattle.tier_model.specs.Tiers.{TierState, count, size, kept_wish, is_held, load}
 use Rattle.tier_model.specs.Ranks.{outranks}
 use Rattle.tier_model.specs.RankLaws.{outranks_is_ranking}
 use Rattle.tier_model.specs.Choices.{Told, candidate, victim}
-use Rattle.tier_model.specs.Chosen.{IsEligible, IsCandidate, MayLeave, candidate_is_highest, no_candidate, no_victim}
+use Rattle.tier_model.specs.Chosen.{IsEligible, IsCandidate, candidate_is_highest, no_candidate, no_victim}
 use Rattle.tier_model.specs.Turns.{fitting, entering, leaving}
 use Rattle.tier_model.specs.Follows.{AtRest}
 use Rattle.settling_laws.specs.ChangeLaws.{nothing_there}
-use Rattle.detail_laws.specs.Needs.{is_needed, needed_bytes, KeepsBase, IsCalm}
+use Rattle.detail_laws.specs.Needs.{is_needed, needed_bytes, KeepsBase}
 use Rattle.detail_laws.specs.NeedLaws.{marks_of_held, load_at_rest, room_beside}
-use Rattle.detail_laws.specs.Gathers.{is_there, rises, Gathers}
+use Rattle.detail_laws.specs.Gathers.{is_there, Gathers}
 
 -- the tier has room for all that it needs by the wishes that it keeps
 pub record HasRoom (used : ℕ → Bool) (s : TierState) : Type 0 where
@@ -25,7 +24,7 @@ pub record HasRoom (used : ℕ → Bool) (s : TierState) : Type 0 where
 
 -- ---- what is needed
 
-wished_is_needed : (s : TierState) (used : ℕ → Bool) (p : ℕ) → is_marked s.base p ≡ false → 0 < kept_wish s p → is_needed s (kept_wish s) used p ≡ true
+pub wished_is_needed : (s : TierState) (used : ℕ → Bool) (p : ℕ) → is_marked s.base p ≡ false → 0 < kept_wish s p → is_needed s (kept_wish s) used p ≡ true
 wished_is_needed s used p not_base wished =
     or_right (is_marked s.pinned p) (not (is_marked s.base p) && (ltb 0 (kept_wish s p) || used p))
     (and_from (not (is_marked s.base p)) (ltb 0 (kept_wish s p) || used p) (not_from_false (is_marked s.base p) not_base) (or_left (ltb 0 (kept_wish s p)) (used p) (lt-ltb 0 (kept_wish s p) wished)))
@@ -107,20 +106,25 @@ held_is_needed told s used spent c q gathers is none within held =
           | inr above ↦ above_is_wished (kept_wish s) q c above is.eligible.wished
         ]
 
-room_for_candidate : (told : Told) (s : TierState) (used spent : ℕ → Bool) (c : ℕ) → 1 ≤ s.width → AtRest told s → Gathers told s used spent → HasRoom used s → candidate told s ≡ Some c → ⊥
-room_for_candidate told s used spent c wide rest gathers has_room chosen =
+-- where each held patch is needed a candidate that doesn't come isn't there
+pub room_for_candidate : (told : Told) (s : TierState) (used : ℕ → Bool) (c : ℕ) → 1 ≤ s.width → entering told s ≡ None → s.coming ≡ [] → candidate told s ≡ Some c → HasRoom used s → ((q : ℕ) → q < count s → is_held s q ≡ true → is_needed s (kept_wish s) used q ≡ true) → ⊥
+room_for_candidate told s used c wide none_enters none_comes chosen has_room needed =
     let is = candidate_is_highest told s c chosen in
-    let none = none_leaves_for told s c rest.none_leaves chosen in
-    let empty = ap (λ (cs : List Coming). length cs) rest.none_comes in
-    let full = no_room told s c rest.none_enters (omega arith) chosen in
+    let empty = ap (λ (cs : List Coming). length cs) none_comes in
+    let full = no_room told s c none_enters (omega arith) chosen in
     let held = map (λ o. is_some o) s.held in
     let beside = room_beside s (kept_wish s) used held c is.within
-        (λ q below marked. held_is_needed told s used spent c q gathers is none below (sym (marks_of_held s.held q) ∙ marked))
+        (λ q below marked. needed q below (sym (marks_of_held s.held q) ∙ marked))
         (marks_of_held s.held c ∙ is.eligible.not_held)
         (wished_is_needed s used c is.eligible.not_base is.eligible.wished) in
-    let same = load_at_rest s rest.none_comes in
+    let same = load_at_rest s none_comes in
     let room = has_room.room in
     omega arith
+
+none_chosen : (told : Told) (s : TierState) (used spent : ℕ → Bool) (c : ℕ) → 1 ≤ s.width → AtRest told s → Gathers told s used spent → HasRoom used s → candidate told s ≡ Some c → ⊥
+none_chosen told s used spent c wide rest gathers has_room chosen =
+    room_for_candidate told s used c wide rest.none_enters rest.none_comes chosen has_room
+    (λ q below held. held_is_needed told s used spent c q gathers (candidate_is_highest told s c chosen) (none_leaves_for told s c rest.none_leaves chosen) below held)
 
 nothing_chosen : (told : Told) (s : TierState) (o : Option ℕ) → candidate told s ≡ o → ((c : ℕ) → candidate told s ≡ Some c → ⊥) → candidate told s ≡ None
 nothing_chosen told s None is never = is
@@ -131,6 +135,6 @@ rest-holds told s used spent p wide rest gathers has_room within not_base wished
     elim (cases_Bool (is_held s p)) [
       | inl held ↦ held
       | inr away ↦ absurd (no_candidate told s p
-          (nothing_chosen told s (candidate told s) refl (λ c chosen. room_for_candidate told s used spent c wide rest gathers has_room chosen))
+          (nothing_chosen told s (candidate told s) refl (λ c chosen. none_chosen told s used spent c wide rest gathers has_room chosen))
           within (rest_is_eligible told s used spent p rest gathers has_room within not_base wished has away))
     ]

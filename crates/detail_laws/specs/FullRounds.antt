@@ -1,6 +1,6 @@
 -- A round whose tries are all granted has each wanted node in its set, where these fit; and all its tries are of
 -- wanted nodes.
-use Rattle.std.proofs.Common.{◌≡◌, ℕ, zero, suc, ◌+◌, ◌<◌, ◌≤◌, ◌⊎◌, Bool, true, false, not, ◌&&◌, ◌||◌, cond, eqb, leb, ltb, List, [], ◌∷◌, ◌++◌, length, replicate, Option, Some, None, refl, sym, ap, subst, ◌∙◌, arith, append_assoc, append-nil, inl, inr}
+use Rattle.std.proofs.Common.{◌≡◌, ℕ, zero, suc, ◌<◌, ◌≤◌, ◌⊎◌, Bool, true, false, not, ◌&&◌, ◌||◌, eqb, List, [], ◌∷◌, ◌++◌, length, replicate, Some, None, refl, sym, ap, subst, ◌∙◌, arith, append_assoc, append-nil, inl, inr}
 use Rattle.std.specs.Prelude.{slice_get}
 use Rattle.std.specs.List.{AllByRecursion, list_any, list_all}
 use Rattle.std.proofs.lemmas.Bool.{cond_both, cond-true, cases_Bool, cases_eq, both_ways, and_from, or_cases, or_left, or_right, or_from, eqb-true, eq-eqb, le-leb, ltb-true, lt-ltb, not_from_false, false_from_ne_true}
@@ -9,7 +9,6 @@ use Rattle.file_model.specs.declared.fields.PatchField.{PatchField}
 use Rattle.file_model.specs.declared.fields.Try.{Try}
 use Rattle.file_model.specs.Tries.{is_odd}
 use Rattle.mesh_model.specs.Graph.{leads_to, leads_from, is_root, is_sink, outgoing}
-use Rattle.mesh_model.specs.Accepted.{is_inner}
 use Rattle.mesh_model.specs.Meshes.{IsMesh}
 use Rattle.round_model.specs.Order.{Rules, score, level, comes_before, node_order}
 use Rattle.round_model.specs.Tries.{Verdict, Granted, Refused, OpenAt, Tried, with_try, tried_patches}

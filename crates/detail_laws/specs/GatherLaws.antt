@@ -1,22 +1,21 @@
 -- Each turn that goes well leaves a settling that goes well.
-use Rattle.std.proofs.Common.{◌≡◌, ◌≢◌, ℕ, zero, suc, ◌+◌, ◌<◌, ◌≤◌, Bool, true, false, ◌||◌, cond, eqb, List, [], length, Option, Some, None, is_some, refl, sym, ap, ap₂, subst, ◌∙◌, arith, inl, inr}
-use Rattle.std.specs.Prelude.{slice_index_or, slice_set}
-use Rattle.std.proofs.lemmas.Bool.{cases_eq, cases_Bool, cond-true, cond-false, both_ways, or_left, or_right, false_from_ne_true, false≢true}
+use Rattle.std.proofs.Common.{◌≡◌, ◌≢◌, ℕ, suc, ◌+◌, ◌<◌, ◌≤◌, Bool, true, false, ◌||◌, List, None, is_some, refl, sym, ap, ap₂, subst, ◌∙◌, arith, inl, inr}
+use Rattle.std.specs.Prelude.{slice_index_or}
+use Rattle.std.proofs.lemmas.Bool.{cases_eq, both_ways, or_left, or_right, false_from_ne_true, false≢true}
 use Rattle.std.proofs.lemmas.List.{get_or-set_same, get_or-set_other}
 use Rattle.token_words.specs.declared.keeping.TheConstants.{LAST_EPOCH}
 use Rattle.file_model.specs.Lists.{SeenBody}
-use Rattle.tier_model.specs.declared.turns.Abort.{Abort}
 use Rattle.tier_model.specs.declared.turns.Abort.TheVariants as reasons
 use Rattle.tier_model.specs.declared.turns.Coming.{Coming}
 use Rattle.tier_model.specs.declared.turns.Turn.{Turn}
-use Rattle.tier_model.specs.declared.turns.Turn.TheVariants.{Reserve, Evict, Kept, Got, Lost, Fault, Changed, Commit, Idle}
-use Rattle.tier_model.specs.Places.{is_marked, is_coming, first_coming, first_bare, without}
+use Rattle.tier_model.specs.declared.turns.Turn.TheVariants.{Reserve, Evict, Kept, Got, Lost, Commit, Idle}
+use Rattle.tier_model.specs.Places.{is_marked, is_coming, without}
 use Rattle.tier_model.specs.Tiers.{TierState, count, is_held, IsTier}
 use Rattle.tier_model.specs.Changes.{reserved, arrived, aside_after, aborted, committed, dropped, passed_over}
 use Rattle.tier_model.specs.Ties.{risen, epochs_after}
 use Rattle.tier_model.specs.Choices.{Told}
 use Rattle.tier_model.specs.Turns.{Outcome}
-use Rattle.tier_model.specs.ComingLaws.{bare_comes, first_comes, reserved_comes, reserved_others, arrived_comes, gone_comes, gone_others, gone_came}
+use Rattle.tier_model.specs.ComingLaws.{reserved_comes, reserved_others, arrived_comes, gone_comes, gone_others, gone_came}
 use Rattle.tier_model.specs.TieLaws.{risen_here, risen_other, epochs_rise}
 use Rattle.tier_model.specs.Follows.{Enters, Leaves, Follows, Reserves, Gets, Loses, Fails, Breaks, Commits, Evicts, Keeps, Rests}
 use Rattle.settling_laws.specs.Underway.{IsLater, AreSpentAbove}
@@ -68,7 +67,7 @@ stays_low told answer s t q less low = omega arith
 
 -- ---- the candidate comes
 
-base-reserved : (told : Told) (s : TierState) (c : ℕ) → Enters told s c → KeepsBase s → KeepsBase (reserved s c)
+pub base-reserved : (told : Told) (s : TierState) (c : ℕ) → Enters told s c → KeepsBase s → KeepsBase (reserved s c)
 unfolding reserved
 base-reserved told s c enters keeps = record {
   pins = keeps.pins;
@@ -143,7 +142,7 @@ rises_fall false true false came = absurd (false≢true (came refl))
 rises_fall false false true came = omega arith
 rises_fall false false false came = omega arith
 
-gone_stays_away : (p : ℕ) (cs : List Coming) (q : ℕ) → is_coming cs q ≡ false → is_coming (without p cs) q ≡ false
+pub gone_stays_away : (p : ℕ) (cs : List Coming) (q : ℕ) → is_coming cs q ≡ false → is_coming (without p cs) q ≡ false
 gone_stays_away p cs q away = false_from_ne_true (is_coming (without p cs) q) (λ comes. both_ways (is_coming cs q) away (gone_came p cs q comes))
 
 leads-lost : (told : Told) (s : TierState) (used spent : ℕ → Bool) (p : ℕ) → told.has p ≡ false → Gathers told s used spent → Leads told (Lost p) (aborted s p reasons.Lost) used spent
@@ -191,7 +190,7 @@ low-committed told s p q tier ready =
           omega arith
     ]
 
-base-committed : (s : TierState) (p : ℕ) → IsReady s p → KeepsBase s → KeepsBase (committed s p)
+pub base-committed : (s : TierState) (p : ℕ) → IsReady s p → KeepsBase s → KeepsBase (committed s p)
 unfolding committed
 base-committed s p ready keeps = record {
   pins = keeps.pins;
@@ -248,7 +247,7 @@ low-dropped told s v q tier leaves =
           omega arith
     ]
 
-base-dropped : (told : Told) (s : TierState) (v : ℕ) → Leaves told s v → KeepsBase s → KeepsBase (dropped s v)
+pub base-dropped : (told : Told) (s : TierState) (v : ℕ) → Leaves told s v → KeepsBase s → KeepsBase (dropped s v)
 unfolding dropped
 base-dropped told s v leaves keeps = record {
   pins = keeps.pins;

@@ -1,19 +1,12 @@
 -- Laws of needs: a tier's load is a sum over its patches, and changes keep base patches where they are.
-use Rattle.std.proofs.Common.{◌≡◌, ◌≢◌, ℕ, zero, suc, ◌+◌, ◌-◌, ◌<◌, ◌≤◌, Bool, true, false, not, ◌&&◌, ◌||◌, cond, ltb, List, [], ◌∷◌, length, map, Option, Some, None, is_some, refl, sym, ap, ap₂, subst, ◌∙◌, arith, inl, inr}
-use Rattle.std.specs.Prelude.{slice_get, slice_index, slice_index_or, slice_set}
-use Rattle.std.proofs.lemmas.Bool.{cases_eq, cases_Bool, cond_both, cond-true, cond-false, both_ways, false_from_ne_true, or_left}
-use Rattle.std.proofs.lemmas.List.{get_or-set_other}
+use Rattle.std.proofs.Common.{◌≡◌, ℕ, zero, suc, ◌+◌, ◌<◌, ◌≤◌, Bool, true, false, not, ◌&&◌, ◌||◌, cond, ltb, List, [], ◌∷◌, length, map, Option, None, is_some, refl, ap, subst, ◌∙◌, arith, inl, inr}
+use Rattle.std.specs.Prelude.{slice_index, slice_index_or}
+use Rattle.std.proofs.lemmas.Bool.{cases_eq, cond-true, cond-false}
 use Rattle.file_model.specs.Lists.{SeenBody}
-use Rattle.tier_model.specs.declared.turns.Abort.{Abort}
-use Rattle.tier_model.specs.declared.turns.Coming.{Coming}
-use Rattle.tier_model.specs.Places.{is_marked, is_coming, marked_bytes, coming_bytes, load_of}
-use Rattle.tier_model.specs.Tiers.{TierState, count, size, is_held, load, pinned_bytes, IsTier}
-use Rattle.tier_model.specs.Changes.{reserved, arrived, aborted, committed, dropped, passed_over, calmed}
-use Rattle.tier_model.specs.Choices.{Told}
-use Rattle.tier_model.specs.ComingLaws.{reserved_others, arrived_comes, gone_came}
-use Rattle.tier_model.specs.Follows.{Enters, Leaves}
+use Rattle.tier_model.specs.Places.{is_marked, marked_bytes, coming_bytes, load_of}
+use Rattle.tier_model.specs.Tiers.{TierState, count, size, load}
 use Rattle.settling_laws.specs.Stages.{sum_below}
-use Rattle.detail_laws.specs.Needs.{is_needed, needed_bytes, KeepsBase}
+use Rattle.detail_laws.specs.Needs.{is_needed, needed_bytes}
 
 -- ---- sums
 

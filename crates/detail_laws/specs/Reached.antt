@@ -1,7 +1,6 @@
 -- Settling and a round behind it bring the detail that the view wants.
-use Rattle.std.proofs.Common.{◌≡◌, ◌≢◌, ℕ, zero, suc, ◌+◌, ◌<◌, ◌≤◌, max, Bool, true, false, not, ◌||◌, cond, ltb, List, [], ◌∷◌, length, map, Option, Some, None, refl, sym, ap, subst, ◌∙◌, arith, inl, inr}
-use Rattle.std.specs.Prelude.{slice_get, slice_index, slice_index_or}
-use Rattle.std.specs.List.{AllByRecursion}
+use Rattle.std.proofs.Common.{◌≡◌, ℕ, zero, suc, ◌<◌, ◌≤◌, Bool, true, false, ◌||◌, ltb, List, [], ◌∷◌, length, map, Option, Some, None, refl, ap, subst, ◌∙◌, arith, inl, inr}
+use Rattle.std.specs.Prelude.{slice_get}
 use Rattle.std.specs.Option.{option_map_or}
 use Rattle.std.proofs.lemmas.Bool.{cond-true, ltb-true, not-true, or_parts}
 use Rattle.std.proofs.lemmas.Option.{same_Some, slice_get_past, slice_get_within}
@@ -10,18 +9,16 @@ use Rattle.file_model.specs.declared.fields.Try.{Try}
 use Rattle.file_model.specs.Tries.{is_odd}
 use Rattle.mesh_model.specs.Graph.{is_root, is_sink}
 use Rattle.round_model.specs.Order.{Rules, score}
-use Rattle.round_model.specs.Rounds.{has, is_wanted, round_of}
+use Rattle.round_model.specs.Rounds.{has, round_of}
 use Rattle.frame_laws.specs.Each.{each_both}
-use Rattle.round_laws.specs.Ascending.{IsInnerNode}
 use Rattle.round_laws.specs.Cuts.{IsRootOrWanted, round_members, round_is_cut}
 use Rattle.tier_model.specs.declared.turns.Turn.{Turn}
 use Rattle.tier_model.specs.Places.{is_marked}
-use Rattle.tier_model.specs.Tiers.{TierState, count, is_held, IsTier, base_marks}
+use Rattle.tier_model.specs.Tiers.{TierState, is_held, base_marks}
 use Rattle.tier_model.specs.Ranks.{Posted, view_wish, node_wish, wish_of}
 use Rattle.tier_model.specs.Turns.{Board}
-use Rattle.tier_model.specs.Ties.{IsTied}
 use Rattle.tier_model.specs.Chains.{Chain, has_below}
-use Rattle.tier_model.specs.ChainLaws.{AreTiers, IsTopTied, tied_settled}
+use Rattle.tier_model.specs.ChainLaws.{AreTiers, tied_settled}
 use Rattle.tier_model.specs.Settling.{Settles}
 use Rattle.detail_laws.specs.Needs.{GoWell, IsHeldIn, AreReady}
 use Rattle.detail_laws.specs.Settled.{settled-holds, settled-count}
@@ -85,9 +82,9 @@ unfolding has_below
 store_has tiers k p many = ap (λ (o : Option TierState). option_map_or (λ (t : TierState). is_held t p) o true) (slice_get_past tiers (suc k) (omega arith))
 
 held_by_number : (board : Board) (used : ℕ → ℕ → Bool) (base : List Bool) (n : ℕ) (a c : Chain) (log : List (ℕ × Turn)) → 1 ≤ n → length a.tiers ≡ n → Settles board n a log c → AreReady board used base n a → GoWell used log → (p : ℕ) → p < length base → is_marked base p ≡ false → 0 < board.wish p → IsHeldIn c.tiers 0 p
-held_by_number board used base zero a c log some many settles ready well p within not_base wished = absurd (omega arith)
-held_by_number board used base (suc k) a c log some many settles ready well p within not_base wished =
-    settled-holds board used base k a c log settles ready well p within not_base wished (store_has a.tiers k p many)
+held_by_number board used base zero a c log some many _ ready well p within not_base wished = absurd (omega arith)
+held_by_number board used base (suc k) a c log some many turns ready well p within not_base wished =
+    settled-holds board used base k a c log turns ready well p within not_base wished (store_has a.tiers k p many)
 
 wanted_is_held : (rules : Rules) (board : Board) (used : ℕ → ℕ → Bool) (a c : Chain) (log : List (ℕ × Turn)) (p : ℕ) → SettlesWell rules board used a c log → IsPosted rules board → IsOfWanted rules p → IsHeldIn c.tiers 0 p
 wanted_is_held rules board used a c log p well posted of_wanted =

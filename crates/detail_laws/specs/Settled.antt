@@ -1,13 +1,12 @@
 -- Once tiers that are ready have settled, the top tier holds all that is wished and that is below them.
 use Rattle.std.proofs.Common.{◌≡◌, ◌≢◌, ℕ, zero, suc, ◌+◌, ◌<◌, ◌≤◌, Bool, true, false, eqb, List, [], ◌∷◌, ◌++◌, length, replicate, Option, Some, refl, sym, ap, subst, ◌∙◌, arith}
 use Rattle.std.specs.Prelude.{slice_get, slice_index}
-use Rattle.std.specs.List.{AllByRecursion}
 use Rattle.std.specs.Option.{option_map_or}
-use Rattle.std.proofs.lemmas.Bool.{cond_both, both_ways, false≢true, eqb-true}
+use Rattle.std.proofs.lemmas.Bool.{cond_both, both_ways, false≢true}
 use Rattle.std.proofs.lemmas.Option.{same_Some}
 use Rattle.token_words.specs.declared.keeping.TheConstants.{LAST_EPOCH}
 use Rattle.tier_model.specs.declared.turns.Turn.{Turn}
-use Rattle.tier_model.specs.declared.turns.Turn.TheVariants.{Reserve, Evict, Kept, Got, Lost, Fault, Changed, Commit, Idle}
+use Rattle.tier_model.specs.declared.turns.Turn.TheVariants.{Idle}
 use Rattle.tier_model.specs.Places.{is_marked, is_coming}
 use Rattle.tier_model.specs.Tiers.{TierState, count, kept_wish, is_held, IsTier}
 use Rattle.tier_model.specs.Changes.{calmed, renewed, ranked}
@@ -22,18 +21,18 @@ use Rattle.tier_model.specs.ChainLaws.{tier_here, others_stay, epochs_stay}
 use Rattle.settling_laws.specs.FewTurns.{later_after}
 use Rattle.detail_laws.specs.Needs.{KeepsBase, IsCalm, IsReady, GoesWell, GoWell, IsHeldIn, AreReady}
 use Rattle.detail_laws.specs.NeedLaws.{needed_same}
-use Rattle.detail_laws.specs.Gathers.{rises_by, rises, Gathers, IsThen}
+use Rattle.detail_laws.specs.Gathers.{rises_by, IsThen}
 use Rattle.detail_laws.specs.GatherLaws.{IsGathering, gathering-followed}
 use Rattle.detail_laws.specs.AtRest.{HasRoom, rest-holds}
 
 -- ---- a tier that is ready begins
 
-nothing_marked : (n p : ℕ) → is_marked (replicate n false) p ≡ false
+pub nothing_marked : (n p : ℕ) → is_marked (replicate n false) p ≡ false
 nothing_marked zero p = refl
 nothing_marked (suc n) zero = refl
 nothing_marked (suc n) (suc p) = nothing_marked n p
 
-base-begun : (board : Board) (s : TierState) → KeepsBase s → KeepsBase (begun board s)
+pub base-begun : (board : Board) (s : TierState) → KeepsBase s → KeepsBase (begun board s)
 unfolding begun ranked renewed
 base-begun board s keeps =
     cond_both (eqb board.version s.version) s (renewed (ranked s board.wish) board.version) KeepsBase
@@ -56,7 +55,7 @@ few_rises true coming = omega arith
 few_rises false true = omega arith
 few_rises false false = omega arith
 
-gathering-begins : (board : Board) (told : Told) (used : ℕ → Bool) (s : TierState) → IsReady board used s → ((p : ℕ) → p < count s → told.epochs p + 2 < LAST_EPOCH) → IsGathering told (begun board s) used
+pub gathering-begins : (board : Board) (told : Told) (used : ℕ → Bool) (s : TierState) → IsReady board used s → ((p : ℕ) → p < count s → told.epochs p + 2 < LAST_EPOCH) → IsGathering told (begun board s) used
 gathering-begins board told used s ready low = record {
   spent = λ p. false;
   gathers = record {
@@ -71,7 +70,7 @@ gathering-begins board told used s ready low = record {
   };
 }
 
-room-begins : (board : Board) (used : ℕ → Bool) (s : TierState) → IsReady board used s → HasRoom used (begun board s)
+pub room-begins : (board : Board) (used : ℕ → Bool) (s : TierState) → IsReady board used s → HasRoom used (begun board s)
 room-begins board used s ready = record {
   room =
       let places = begun_places board s in
@@ -93,12 +92,12 @@ record IsToBring (board : Board) (k : ℕ) (a : Chain) (used : ℕ → Bool) (p 
   wished : 0 < kept_wish (begun board s) p
   there : has_below a.tiers k p ≡ true
 
-then_after : (board : Board) (k : ℕ) (answer : Turn) (a b : Chain) → TurnsAt board k answer a b → IsThen (told_at a k) (told_at b k) answer
+pub then_after : (board : Board) (k : ℕ) (answer : Turn) (a b : Chain) → TurnsAt board k answer a b → IsThen (told_at a k) (told_at b k) answer
 unfolding is_top epochs_then
 then_after board zero answer a b turn = record { has = (later_after board zero answer a b turn).has; top = refl; epochs = λ top p. turn.epochs p }
 then_after board (suc k) answer a b turn = record { has = (later_after board (suc k) answer a b turn).has; top = refl; epochs = λ top p. absurd (false≢true top) }
 
-room_alike : (used : ℕ → Bool) (s t : TierState) → IsAlike s t → HasRoom used s → HasRoom used t
+pub room_alike : (used : ℕ → Bool) (s t : TierState) → IsAlike s t → HasRoom used s → HasRoom used t
 room_alike used s t alike has_room = record {
   room =
       let needs = needed_same s t (kept_wish s) (kept_wish t) used alike.sizes alike.base alike.pinned (λ p within. ap (λ (wishes : List ℕ). slice_index wishes p) alike.wishes) in
@@ -128,11 +127,11 @@ bring-turned board k answer a b used p turn on well bring =
     }
 
 -- an idle turn is one at rest
-record HasRested (told : Told) (s t : TierState) : Type 0 where
-  rest : AtRest told s
-  is : t ≡ calmed s
+pub record HasRested (told : Told) (s t : TierState) : Type 0 where
+  pub rest : AtRest told s
+  pub is : t ≡ calmed s
 
-idle_rests : (told : Told) (s : TierState) (o : Outcome) (x : Turn × TierState) → Follows told s o x → x.0 ≡ Idle → HasRested told s x.1
+pub idle_rests : (told : Told) (s : TierState) (o : Outcome) (x : Turn × TierState) → Follows told s o x → x.0 ≡ Idle → HasRested told s x.1
 idle_rests told s o x (Reserves c enters) idle = absurd (cc)
 idle_rests told s o x (Gets p body none bare has came) idle = absurd (cc)
 idle_rests told s o x (Loses p none bare has) idle = absurd (cc)
@@ -243,7 +242,7 @@ to_idle_count board k a c log (More {b = b} {log = later} answer on turn rest) s
 
 -- the top tier has as many patches as there are marks of base patches
 pub settled-count : (board : Board) (used : ℕ → ℕ → Bool) (base : List Bool) (n : ℕ) (a c : Chain) (log : List (ℕ × Turn)) → Settles board n a log c → AreReady board used base n a → (t : TierState) → slice_get c.tiers 0 ≡ Some t → 1 ≤ n → count t ≡ length base
-settled-count board used base zero a c log settles ready t is some = absurd (omega arith)
+settled-count board used base zero a c log _ ready t is some = absurd (omega arith)
 settled-count board used base (suc zero) a c log (Tier {log = first} turns Settled) ready t is some =
     let at = to_idle_first board zero a c first turns in
     let here = ready.each zero at.0 (omega arith) at.1 in

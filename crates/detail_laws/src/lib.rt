@@ -24,6 +24,16 @@ ghost use Rattle.tier_model.specs.Chains.{Chain, has_below};
 ghost use Rattle.tier_model.specs.Settling.{Settles};
 ghost use Rattle.detail_laws.specs.Needs.{GoWell, IsHeldIn, AreReady};
 ghost use Rattle.detail_laws.specs.Wanted.{FitsWanted, AreGranted, IsOfWanted, SettlesWell, IsRoundOf};
+ghost use Rattle.detail_laws.specs.TurnsLeft.{is_due, turns_left};
+ghost use Rattle.detail_laws.specs.ExactTurns.{IsStraight, BeginsWithBase};
+ghost use Rattle.std.specs.Prelude.{◌+◌, ◌*◌, [], ◌∷◌, Some, slice_get, if◌then◌else◌};
+ghost use Rattle.file_model.specs.Lists.{IndexLists, SeenBody};
+ghost use Rattle.settling_laws.specs.Stages.{sum_below};
+ghost use Rattle.tier_model.specs.Turns.{begun, IsTurn};
+ghost use Rattle.tier_model.specs.Tiers.{IsTier};
+ghost use Rattle.tier_model.specs.Chains.{told_at, opened_tiers};
+ghost use Rattle.tier_model.specs.Settling.{TurnsToIdle};
+ghost use Rattle.detail_laws.specs.Needs.{KeepsBase, IsCalm};
 ghost use Rattle.detail_laws.specs.Gathers.{Gathers};
 ghost use Rattle.detail_laws.specs.AtRest.{HasRoom};
 
@@ -65,4 +75,30 @@ pub fn settling_reaches_the_wanted_detail()
         → IsRoundOf rules board c.epochs answers → (v : ℕ)
         → (has (round_of rules answers).set v ≡ true → IsRootOrWanted rules v)
         × (IsRootOrWanted rules v → has (round_of rules answers).set v ≡ true) }
+{}
+
+/// Where no patch has to leave, a settling of one tier takes one turn to reserve, one to fetch and one to hold each
+/// patch that comes, and the idle one.
+pub fn a_straight_settling_takes_so_many_turns()
+    ensures exact { (board : Board) (used : ℕ → ℕ → Bool) (k : ℕ) (a b : Chain)
+        (log : List (ℕ × Turn)) (s : TierState) → TurnsToIdle board k a log b
+        → slice_get a.tiers k ≡ Some s → GoWell used log → IsStraight board k a (used k) s
+        → length log ≡ turns_left (told_at a k) (begun board s) + 1 }
+    ensures at_first { (told : Told) (s : TierState) → s.coming ≡ []
+        → ((p : ℕ) → is_due told s p ≡ true → is_held s p ≡ false)
+        → turns_left told s
+        ≡ 3 * sum_below (count s) (λ p. if is_due told s p then 1 else 0) }
+    ensures beside_base { (told : Told) (s : TierState) → BeginsWithBase told s
+        → turns_left told s + 3 * sum_below (count s) (λ p. if is_marked s.base p then 1 else 0)
+        ≡ 3 * count s }
+{}
+
+/// At the opening nothing is aside or was passed over, and in a run base patches stay where they are.
+pub fn base_patches_stay()
+    ensures opened { (index : IndexLists) (body : ℕ → SeenBody) (budget : ℕ) (budgets : List ℕ)
+        (width k : ℕ) (t : TierState)
+        → slice_get (opened_tiers index body (budget ∷ budgets) width) k ≡ Some t
+        → (used : ℕ → Bool) → KeepsBase t × IsCalm used t }
+    ensures turned { (board : Board) (told : Told) (s : TierState) (answer : Turn) (after : TierState)
+        → IsTier s → IsTurn board told s answer after → KeepsBase s → KeepsBase after }
 {}
