@@ -114,9 +114,9 @@ room_for_candidate told s used c wide none_enters none_comes chosen has_room nee
     let full = no_room told s c none_enters (omega arith) chosen in
     let held = map (λ o. is_some o) s.held in
     let beside = room_beside s (kept_wish s) used held c is.within
-        (λ q below marked. needed q below (sym (marks_of_held s.held q) ∙ marked))
-        (marks_of_held s.held c ∙ is.eligible.not_held)
-        (wished_is_needed s used c is.eligible.not_base is.eligible.wished) in
+    (λ q below marked. needed q below (sym (marks_of_held s.held q) ∙ marked))
+    (marks_of_held s.held c ∙ is.eligible.not_held)
+    (wished_is_needed s used c is.eligible.not_base is.eligible.wished) in
     let same = load_at_rest s none_comes in
     let room = has_room.room in
     omega arith

@@ -5,6 +5,7 @@ use Rattle.std.proofs.lemmas.Bool.{cases_Bool, cases_eq, both_ways, and_from, an
 use Rattle.std.proofs.lemmas.List.{get_or-set_other}
 use Rattle.std.proofs.lemmas.Option.{same_Some}
 use Rattle.file_model.specs.Lists.{SeenBody}
+use Rattle.token_words.specs.declared.keeping.TheConstants.{LAST_EPOCH}
 use Rattle.tier_model.specs.declared.turns.Turn.{Turn}
 use Rattle.tier_model.specs.declared.turns.Turn.TheVariants.{Idle}
 use Rattle.tier_model.specs.Places.{is_marked, is_coming, is_full, first_bare}
@@ -22,11 +23,11 @@ use Rattle.tier_model.specs.TurnLaws.{alike-followed, begun_same, turn_follows, 
 use Rattle.tier_model.specs.ChainLaws.{tier_here}
 use Rattle.settling_laws.specs.Stages.{sum_below}
 use Rattle.settling_laws.specs.ChangeLaws.{nothing_there, IsReady, ready_from, held-committed}
-use Rattle.detail_laws.specs.Needs.{GoesWell, GoWell}
+use Rattle.detail_laws.specs.Needs.{IsTierReady, GoesWell, GoWell}
 use Rattle.detail_laws.specs.Gathers.{Gathers, IsThen}
 use Rattle.detail_laws.specs.GatherLaws.{IsGathering, gathering-followed}
 use Rattle.detail_laws.specs.AtRest.{HasRoom, room_for_candidate, wished_is_needed, rest-holds}
-use Rattle.detail_laws.specs.Settled.{then_after, room_alike, idle_rests}
+use Rattle.detail_laws.specs.Settled.{gathering-begins, room-begins, then_after, room_alike, idle_rests}
 use Rattle.detail_laws.specs.TurnsLeft.{is_due, turns_by, turns_of_patch, turns_left, HoldsNeeded}
 
 -- ---- sums
@@ -200,8 +201,8 @@ none_left told s used spent wide rest gathers room = no_sum (count s) (turns_of_
       | inl held ↦ turns_are told s q true false false (is_due told s q) held none.0 none.1 refl
       | inr away ↦
           let not_due : is_due told s q ≡ false = false_from_ne_true (is_due told s q) (λ due.
-              let parts = due_parts told s q due in
-              both_ways (is_held s q) away (rest-holds told s used spent q wide rest gathers room within parts.1 parts.0 parts.2)) in
+          let parts = due_parts told s q due in
+          both_ways (is_held s q) away (rest-holds told s used spent q wide rest gathers room within parts.1 parts.0 parts.2)) in
           turns_are told s q false false false false away none.0 none.1 not_due
     ])
 
@@ -213,6 +214,15 @@ pub record IsStraight (board : Board) (k : ℕ) (a : Chain) (used : ℕ → Bool
   pub gathering : IsGathering (told_at a k) (begun board s) used
   pub room : HasRoom used (begun board s)
   pub needed : HoldsNeeded (told_at a k) used (begun board s)
+
+-- a tier that is ready, and holds and brings what is needed alone, settles so
+pub straight-begins : (board : Board) (k : ℕ) (a : Chain) (used : ℕ → Bool) (s : TierState) → IsTierReady board used s → ((p : ℕ) → p < count s → a.epochs p + 2 < LAST_EPOCH) → HoldsNeeded (told_at a k) used (begun board s) → IsStraight board k a used s
+straight-begins board k a used s ready low needed = record {
+  is_tier = ready.is_tier;
+  gathering = gathering-begins board (told_at a k) used s ready low;
+  room = room-begins board used s ready;
+  needed = needed;
+}
 
 -- one turn less is left, and the settling stays straight
 record GoesStraight (board : Board) (k : ℕ) (a b : Chain) (used : ℕ → Bool) (s t : TierState) : Type 0 where

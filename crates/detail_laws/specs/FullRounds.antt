@@ -142,12 +142,12 @@ wanted_is_tried rules first rest set v mesh falls fits at wanted =
     let fields = rules.mesh.index.fields in
     let next = joined rules first rest set v at wanted in
     let within : frame_size (has (with_member set v)) fields ≤ rules.limit =
-        subst (λ (s : List Bool). frame_size (has s) fields ≤ rules.limit) (sym next.members) (fits.fits (first ++ v ∷ []) rest next.order next.wanted) in
+    subst (λ (s : List Bool). frame_size (has s) fields ≤ rules.limit) (sym next.members) (fits.fits (first ++ v ∷ []) rest next.order next.wanted) in
     let parents : has_parents fields set v ≡ true = all_at (λ (f : PatchField). not (leads_to v f) || has set f.tail) fields (λ p f here.
-        elim (cases_Bool (leads_to v f)) [
-          | inl leads ↦ or_right (not (leads_to v f)) (has set f.tail) (parent_is_in rules first rest set v p f mesh falls at here (eqb-true f.head v leads))
-          | inr never ↦ or_left (not (leads_to v f)) (has set f.tail) (not_from_false (leads_to v f) never)
-        ]) in
+    elim (cases_Bool (leads_to v f)) [
+      | inl leads ↦ or_right (not (leads_to v f)) (has set f.tail) (parent_is_in rules first rest set v p f mesh falls at here (eqb-true f.head v leads))
+      | inr never ↦ or_left (not (leads_to v f)) (has set f.tail) (not_from_false (leads_to v f) never)
+    ]) in
     and_from (is_wanted rules v && has_parents fields set v) (is_within_limit rules set v)
     (and_from (is_wanted rules v) (has_parents fields set v) wanted parents)
     (le-leb (frame_size (has (with_member set v)) fields) rules.limit within)

@@ -74,8 +74,8 @@ pub room_beside : (s : TierState) (wish : ℕ → ℕ) (used : ℕ → Bool) (ma
 room_beside s wish used marks p within needed unmarked here =
     let sum = marked_is_sum s.sizes marks in
     let grows = sum_grows_at (count s) p (size s p) (λ q. cond (is_marked marks q) (size s q) 0) (λ q. cond (is_needed s wish used q) (size s q) 0) within
-        (λ q below. no_more (is_marked marks q) (is_needed s wish used q) (size s q) (needed q below))
-        (let none = cond-false (is_marked marks p) (size s p) 0 unmarked in let all = cond-true (is_needed s wish used p) (size s p) 0 here in omega arith) in
+    (λ q below. no_more (is_marked marks q) (is_needed s wish used q) (size s q) (needed q below))
+    (let none = cond-false (is_marked marks p) (size s p) 0 unmarked in let all = cond-true (is_needed s wish used p) (size s p) 0 here in omega arith) in
     omega arith
   where
     no_more : (b c : Bool) (n : ℕ) → (b ≡ true → c ≡ true) → cond b n 0 ≤ cond c n 0
@@ -88,5 +88,5 @@ needed_same s t wish other used sizes base pinned same =
     let bytes = λ (n : List ℕ) (b m : List Bool). sum_below (length n) (λ p. cond (is_marked m p || (not (is_marked b p) && (ltb 0 (other p) || used p))) (slice_index n p) 0) in
     let is : needed_bytes t other used ≡ needed_bytes s other used = ap (λ (n : List ℕ). bytes n t.base t.pinned) sizes ∙ ap (λ (b : List Bool). bytes s.sizes b t.pinned) base ∙ ap (λ (m : List Bool). bytes s.sizes s.base m) pinned in
     let grows = sum_grows (count s) (λ p. cond (is_needed s other used p) (size s p) 0) (λ p. cond (is_needed s wish used p) (size s p) 0)
-        (λ p within. let value = ap (λ (n : ℕ). cond (is_marked s.pinned p || (not (is_marked s.base p) && (ltb 0 n || used p))) (size s p) 0) (same p within) in omega arith) in
+    (λ p within. let value = ap (λ (n : ℕ). cond (is_marked s.pinned p || (not (is_marked s.base p) && (ltb 0 n || used p))) (size s p) 0) (same p within) in omega arith) in
     omega arith

@@ -31,7 +31,7 @@ pub record IsCalm (used : ℕ → Bool) (s : TierState) : Type 0 where
   pub passed : (p : ℕ) → is_marked s.passed p ≡ true → used p ≡ true
 
 -- the tier has room for all that is wished, passed over or in use, and nothing is aside
-pub record IsReady (board : Board) (used : ℕ → Bool) (s : TierState) : Type 0 where
+pub record IsTierReady (board : Board) (used : ℕ → Bool) (s : TierState) : Type 0 where
   pub is_tier : IsTier s
   pub keeps_base : KeepsBase s
   pub keeps_wishes : KeepsWishes board s
@@ -62,6 +62,6 @@ pub record IsHeldIn (tiers : List TierState) (k p : ℕ) : Type 0 where
 
 -- the first n tiers are ready, and over the same base patches; no epoch is among the last three
 pub record AreReady (board : Board) (used : ℕ → ℕ → Bool) (base : List Bool) (n : ℕ) (a : Chain) : Type 0 where
-  pub each : (k : ℕ) (s : TierState) → k < n → slice_get a.tiers k ≡ Some s → IsReady board (used k) s
+  pub each : (k : ℕ) (s : TierState) → k < n → slice_get a.tiers k ≡ Some s → IsTierReady board (used k) s
   pub same_base : (k : ℕ) (s : TierState) → k < n → slice_get a.tiers k ≡ Some s → s.base ≡ base
   pub low : (p : ℕ) → p < length base → a.epochs p + 2 < LAST_EPOCH

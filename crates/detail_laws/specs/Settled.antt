@@ -19,7 +19,7 @@ use Rattle.tier_model.specs.TierLaws.{IsTier-begun}
 use Rattle.tier_model.specs.TurnLaws.{IsAlike, alike-followed, begun_same, begun_places, begun_wishes, turn_follows, setup-turned, version-turned, IsTier-turned}
 use Rattle.tier_model.specs.ChainLaws.{tier_here, others_stay, epochs_stay}
 use Rattle.settling_laws.specs.FewTurns.{later_after}
-use Rattle.detail_laws.specs.Needs.{KeepsBase, IsCalm, IsReady, GoesWell, GoWell, IsHeldIn, AreReady}
+use Rattle.detail_laws.specs.Needs.{KeepsBase, IsCalm, IsTierReady, GoesWell, GoWell, IsHeldIn, AreReady}
 use Rattle.detail_laws.specs.NeedLaws.{needed_same}
 use Rattle.detail_laws.specs.Gathers.{rises_by, IsThen}
 use Rattle.detail_laws.specs.GatherLaws.{IsGathering, gathering-followed}
@@ -55,7 +55,7 @@ few_rises true coming = omega arith
 few_rises false true = omega arith
 few_rises false false = omega arith
 
-pub gathering-begins : (board : Board) (told : Told) (used : ℕ → Bool) (s : TierState) → IsReady board used s → ((p : ℕ) → p < count s → told.epochs p + 2 < LAST_EPOCH) → IsGathering told (begun board s) used
+pub gathering-begins : (board : Board) (told : Told) (used : ℕ → Bool) (s : TierState) → IsTierReady board used s → ((p : ℕ) → p < count s → told.epochs p + 2 < LAST_EPOCH) → IsGathering told (begun board s) used
 gathering-begins board told used s ready low = record {
   spent = λ p. false;
   gathers = record {
@@ -70,7 +70,7 @@ gathering-begins board told used s ready low = record {
   };
 }
 
-pub room-begins : (board : Board) (used : ℕ → Bool) (s : TierState) → IsReady board used s → HasRoom used (begun board s)
+pub room-begins : (board : Board) (used : ℕ → Bool) (s : TierState) → IsTierReady board used s → HasRoom used (begun board s)
 room-begins board used s ready = record {
   room =
       let places = begun_places board s in

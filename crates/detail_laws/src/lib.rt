@@ -4,10 +4,11 @@
 //! `specs/`.
 #![tactic(auto)]
 
-ghost use Rattle.std.specs.Prelude.{◌≡◌, ℕ, suc, ◌<◌, ◌≤◌, Bool, true, false, List, length};
-ghost use Rattle.std.specs.Prelude.{None};
+ghost use Rattle.std.specs.Prelude.{◌≡◌, ℕ, suc, ◌+◌, ◌*◌, ◌<◌, ◌≤◌, Bool, true, false, List, [], ◌∷◌, length, Some, None, slice_get, if◌then◌else◌};
 ghost use Rattle.std.specs.List.{AllByRecursion};
+ghost use Rattle.token_words.specs.declared.keeping.TheConstants.{LAST_EPOCH};
 ghost use Rattle.file_model.specs.declared.fields.Try.{Try};
+ghost use Rattle.file_model.specs.Lists.{IndexLists, SeenBody};
 ghost use Rattle.mesh_model.specs.Meshes.{IsMesh};
 ghost use Rattle.round_model.specs.Order.{Rules};
 ghost use Rattle.round_model.specs.Rounds.{has, is_wanted, round_of};
@@ -16,26 +17,19 @@ ghost use Rattle.round_laws.specs.Cuts.{IsRootOrWanted};
 ghost use Rattle.round_laws.specs.Parents.{FallsAlong};
 ghost use Rattle.tier_model.specs.declared.turns.Turn.{Turn};
 ghost use Rattle.tier_model.specs.Places.{is_marked};
-ghost use Rattle.tier_model.specs.Tiers.{TierState, count, kept_wish, is_held};
+ghost use Rattle.tier_model.specs.Tiers.{TierState, count, kept_wish, is_held, IsTier};
 ghost use Rattle.tier_model.specs.Choices.{Told};
 ghost use Rattle.tier_model.specs.Follows.{AtRest};
-ghost use Rattle.tier_model.specs.Turns.{Board};
-ghost use Rattle.tier_model.specs.Chains.{Chain, has_below};
-ghost use Rattle.tier_model.specs.Settling.{Settles};
-ghost use Rattle.detail_laws.specs.Needs.{GoWell, IsHeldIn, AreReady};
-ghost use Rattle.detail_laws.specs.Wanted.{FitsWanted, AreGranted, IsOfWanted, SettlesWell, IsRoundOf};
-ghost use Rattle.detail_laws.specs.TurnsLeft.{is_due, turns_left};
-ghost use Rattle.detail_laws.specs.ExactTurns.{IsStraight, BeginsWithBase};
-ghost use Rattle.std.specs.Prelude.{◌+◌, ◌*◌, [], ◌∷◌, Some, slice_get, if◌then◌else◌};
-ghost use Rattle.file_model.specs.Lists.{IndexLists, SeenBody};
+ghost use Rattle.tier_model.specs.Turns.{Board, begun, IsTurn};
+ghost use Rattle.tier_model.specs.Chains.{Chain, has_below, told_at, opened_tiers};
+ghost use Rattle.tier_model.specs.Settling.{TurnsToIdle, Settles};
 ghost use Rattle.settling_laws.specs.Stages.{sum_below};
-ghost use Rattle.tier_model.specs.Turns.{begun, IsTurn};
-ghost use Rattle.tier_model.specs.Tiers.{IsTier};
-ghost use Rattle.tier_model.specs.Chains.{told_at, opened_tiers};
-ghost use Rattle.tier_model.specs.Settling.{TurnsToIdle};
-ghost use Rattle.detail_laws.specs.Needs.{KeepsBase, IsCalm};
+ghost use Rattle.detail_laws.specs.Needs.{KeepsBase, IsCalm, IsTierReady, GoWell, IsHeldIn, AreReady};
 ghost use Rattle.detail_laws.specs.Gathers.{Gathers};
 ghost use Rattle.detail_laws.specs.AtRest.{HasRoom};
+ghost use Rattle.detail_laws.specs.TurnsLeft.{is_due, turns_left, HoldsNeeded};
+ghost use Rattle.detail_laws.specs.ExactTurns.{IsStraight, BeginsWithBase};
+ghost use Rattle.detail_laws.specs.Wanted.{FitsWanted, AreGranted, IsOfWanted, SettlesWell, IsRoundOf};
 
 /// A tier at rest, in a settling that went well so far, holds each patch that is wished and that the tier below
 /// has, where there is room for all that is needed.
@@ -80,6 +74,9 @@ pub fn settling_reaches_the_wanted_detail()
 /// Where no patch has to leave, a settling of one tier takes one turn to reserve, one to fetch and one to hold each
 /// patch that comes, and the idle one.
 pub fn a_straight_settling_takes_so_many_turns()
+    ensures straight { (board : Board) (k : ℕ) (a : Chain) (used : ℕ → Bool) (s : TierState)
+        → IsTierReady board used s → ((p : ℕ) → p < count s → a.epochs p + 2 < LAST_EPOCH)
+        → HoldsNeeded (told_at a k) used (begun board s) → IsStraight board k a used s }
     ensures exact { (board : Board) (used : ℕ → ℕ → Bool) (k : ℕ) (a b : Chain)
         (log : List (ℕ × Turn)) (s : TierState) → TurnsToIdle board k a log b
         → slice_get a.tiers k ≡ Some s → GoWell used log → IsStraight board k a (used k) s
@@ -99,6 +96,7 @@ pub fn base_patches_stay()
         (width k : ℕ) (t : TierState)
         → slice_get (opened_tiers index body (budget ∷ budgets) width) k ≡ Some t
         → (used : ℕ → Bool) → KeepsBase t × IsCalm used t }
-    ensures turned { (board : Board) (told : Told) (s : TierState) (answer : Turn) (after : TierState)
-        → IsTier s → IsTurn board told s answer after → KeepsBase s → KeepsBase after }
+    ensures turned { (board : Board) (told : Told) (s : TierState) (answer : Turn)
+        (after : TierState) → IsTier s → IsTurn board told s answer after → KeepsBase s
+        → KeepsBase after }
 {}

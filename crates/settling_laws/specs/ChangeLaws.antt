@@ -126,7 +126,7 @@ pub spent_other : (c : ℕ) (spent : ℕ → Bool) (q : ℕ) → q ≢ c → spe
 spent_other c spent q ne = cond-false (eqb q c) true (spent q) (ne_eqb q c ne)
 
 -- no patch that may be reserved is spent
-pub eligible_unspent : (told : Told) (s : TierState) (spent : ℕ → Bool) (c : ℕ) → AreSpentAbove told s spent → c < count s → IsEligible told s c → spent c ≡ false
+eligible_unspent : (told : Told) (s : TierState) (spent : ℕ → Bool) (c : ℕ) → AreSpentAbove told s spent → c < count s → IsEligible told s c → spent c ≡ false
 eligible_unspent told s spent c above within eligible =
     false_from_ne_true (spent c) (λ is. both_ways (outranks (kept_wish s) c c) (outranks_never_itself (kept_wish s) c) (above c c is within eligible))
 
