@@ -1,0 +1,11 @@
+pub mod Worlds
+pub mod States
+pub mod Turning
+pub mod Events
+pub mod Safe
+pub mod Sound
+pub mod SeatLaws
+pub mod BodyLaws
+pub mod TurnLaws
+pub mod SafeLaws
+pub mod OpeningLaws
