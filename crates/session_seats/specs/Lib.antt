@@ -1,0 +1,5 @@
+pub mod Seats
+pub mod SeatChanges
+pub mod Orders
+pub mod SeatLaws
+pub mod OrderLaws
