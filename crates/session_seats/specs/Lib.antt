@@ -3,3 +3,8 @@ pub mod SeatChanges
 pub mod Orders
 pub mod SeatLaws
 pub mod OrderLaws
+pub mod ToldLaws
+pub mod Boards
+pub mod BoardLaws
+pub mod SeatParts
+pub mod SeatSteps

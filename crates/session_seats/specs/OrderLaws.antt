@@ -1,15 +1,19 @@
 -- What is done at a session's seat, as events of the run and as what its line orders.
-use Rattle.std.proofs.Common.{◌≡◌, ℕ, ◌+◌, Bool, true, false, cond, List, length, Option, Some, None, refl, sym, ap, subst, ◌∙◌}
+use Rattle.std.proofs.Common.{◌≡◌, ℕ, ◌-◌, true, false, List, length, Option, Some, None, refl, sym, ap, subst, ◌∙◌}
+use Rattle.std.specs.Prelude.{slice_set}
 use Rattle.std.proofs.lemmas.Bool.{cond_both}
+use Rattle.std.proofs.lemmas.List.{length-set}
+use Rattle.std.proofs.lemmas.Option.{same_Some}
 use Rattle.mesh_model.specs.Meshes.{MeshLists}
 use Rattle.round_model.specs.Views.{ViewSeen}
 use Rattle.script_model.specs.declared.orders.Order.{Order}
 use Rattle.script_model.specs.declared.orders.Order.TheVariants as orders
 use Rattle.session_model.specs.declared.steps.Stepped.{Stepped}
 use Rattle.session_model.specs.declared.steps.Stepped.TheVariants.{Done}
-use Rattle.session_model.specs.Sessions.{SessionState, is_left_over, least_old, opened, round_ended, settled, with_view, printed_once}
+use Rattle.session_model.specs.Sessions.{SessionState, is_left_over, locks, uses, least_old, opened, round_ended, settled, with_view, printed_once}
 use Rattle.session_model.specs.Steps.{SessionStep, stepped, step, step_by, IsOfEpochs, FreeStep, free_old, free_or, free_step}
 use Rattle.session_model.specs.StepLaws.{some_old_in}
+use Rattle.session_model.specs.SessionStates.{printed_locks}
 use Rattle.session_model.specs.Finishes.{Steps, NoStep, OneMore, Finishes}
 use Rattle.tier_model.specs.Chains.{Chain}
 use Rattle.tier_model.specs.Tiers.{TierState}
@@ -19,14 +23,14 @@ use Rattle.token_words.specs.PlainTokens.{epoch_in}
 use Rattle.token_words.specs.declared.entries.Entry.{Entry}
 use Rattle.token_words.specs.declared.session_sets.TheConstants.{SESSIONS}
 use Rattle.run_model.specs.Worlds.{World, patch_count}
-use Rattle.run_model.specs.States.{State, seated}
+use Rattle.run_model.specs.States.{State, seat_uses, seated}
 use Rattle.run_model.specs.Events.{Happens, Frees, Reaches, Stays, Then}
 use Rattle.run_model.specs.Events.{Steps as SessionSteps}
 use Rattle.run_model.specs.Freeing.{FreesAll}
 use Rattle.run_model.specs.Lines.{Did, DidOpen, DidView, DidStep, DidFrame, DidFree, DidClose, frame_of, Does, DoesOpen, DoesView, DoesStep, DoesFrame, DoesFree, DoesClose}
 use Rattle.run_model.specs.SessionReach.{reaches_both, reaches_then, seat_twice, seat_at, seat_chain, GoesTo, steps_go, steps_view, made_by, goes_nowhere, frees_reach}
-use Rattle.session_seats.specs.Seats.{SeatsSeen, at_seat, state_of, AreSeated}
-use Rattle.session_seats.specs.SeatChanges.{ChangesSeat}
+use Rattle.session_seats.specs.Seats.{SeatsSeen, at_seat, with_seat, state_of, AreSeated}
+use Rattle.session_seats.specs.SeatChanges.{KeepsWords, ChangesSeat}
 use Rattle.session_seats.specs.Orders.{DoesOrder, DoesPosting, ReachesSeats, FinishesRound}
 use Rattle.session_seats.specs.SeatLaws.{seat_changed, seat_again}
 
@@ -69,6 +73,24 @@ settled_reach w a i s at same none =
     cond_both s.printed (round_ended s) s P
     (λ printed no_old. subst (λ (t : SessionState). Reaches w a (seated a i (Some t))) (ends_free s none no_old) (Then (Frees i s at) Stays))
     (λ going no_old. subst (Reaches w a) (sym same) Stays)
+
+-- ---- sessions that change, but not in what they use
+
+printed_uses : (s : SessionState) (p : ℕ) → uses (printed_once s) p ≡ uses s p
+unfolding printed_once
+printed_uses s p = refl
+
+pub keeps_words : (i : ℕ) (words : List Entry) → KeepsWords i words words
+keeps_words i words = record { many = refl; epochs = λ p. refl; pins = λ p. refl; use_sets = λ s apart p. refl; lock_sets = λ s apart p. refl }
+
+-- the words stay, where a session uses and has locked what it did
+pub same_uses : {mesh : MeshLists} (words : List Entry) (sessions : List (Option SessionState)) → AreSeated mesh words sessions → (i : ℕ) (s t : SessionState) → at_seat sessions i ≡ Some s → ((p : ℕ) → uses t p ≡ uses s p) → ((p : ℕ) → locks t p ≡ locks s p) → (now : List (Option SessionState)) → now ≡ slice_set sessions (i - 1) (Some t) → ChangesSeat i (Some t) words sessions words now
+same_uses words sessions are i s t at same_use same_lock now is = record {
+  seats = is;
+  keeps = keeps_words i words;
+  uses = λ p. are.uses_are i p ∙ ap (λ (o : Option SessionState). seat_uses o p) at ∙ sym (same_use p);
+  locked = λ u there p. are.locks_are i s at p ∙ sym (same_lock p) ∙ ap (λ (x : SessionState). locks x p) (same_Some t u there);
+}
 
 -- ---- what is done at a seat
 
@@ -127,7 +149,7 @@ module _ (mesh : MeshLists) (words : List Entry) (sessions : List (Option Sessio
 
 -- ---- a round that is finished, and its frame
 
-module _ (words : List Entry) (old : SeatsSeen) (many : length old.sessions ≡ SESSIONS) (i : ℕ) (number : IsSession i) (words_now : List Entry) (now : SeatsSeen) (round : FinishesRound i words old words_now now) where
+module _ (i : ℕ) (words : List Entry) (old : SeatsSeen) (words_now : List Entry) (now : SeatsSeen) (round : FinishesRound i words old words_now now) where
   at_start : (tiers : List TierState) (posted : List (Option Posted)) (version : ℕ) → (state_of tiers words old.sessions posted version).sessions i ≡ Some round.session
   unfolding state_of
   at_start tiers posted version = round.was
@@ -140,16 +162,20 @@ module _ (words : List Entry) (old : SeatsSeen) (many : length old.sessions ≡ 
   pub finished_reaches : ReachesSeats words old words_now now
   finished_reaches = record { reaches = λ w same tiers posted version.
       let a = state_of tiers words old.sessions posted version in
-      subst (Reaches w a) (sym (seat_changed words old.sessions many i number (Some round.last) words_now now.sessions round.changes tiers posted version))
+      subst (Reaches w a) (sym (seat_changed words old.sessions round.seats i round.number (Some round.last) words_now now.sessions round.changes tiers posted version))
       (finishes_reach w a i round.session round.view (at_start tiers posted version) round.viewed round.tries round.last (made_there w same tiers posted version)) }
 
+  seats_now : length now.sessions ≡ SESSIONS
+  seats_now = ap length round.changes.seats ∙ length-set old.sessions (i - 1) (Some round.last) ∙ round.seats
+
   -- once it is printed, the line of a frame was done
-  pub frame_printed : (words_then : List Entry) (then : SeatsSeen) → length now.sessions ≡ SESSIONS → ChangesSeat i (Some (printed_once round.last)) words_now now.sessions words_then then.sessions → (w : World) → w.mesh ≡ old.mesh → (tiers : List TierState) (posted : List (Option Posted)) (version : ℕ)
-      → Does w (state_of tiers words old.sessions posted version) (orders.Frame i) (DidFrame (frame_of (state_of tiers words old.sessions posted version) i round.last round.done.round)) (state_of tiers words_then then.sessions posted version)
-  frame_printed words_then then many_now changes w same tiers posted version =
+  pub frame_printed : (then : SeatsSeen) → AreSeated old.mesh words_now now.sessions → then ≡ with_seat now i (Some (printed_once round.last)) → (w : World) → w.mesh ≡ old.mesh → (tiers : List TierState) (posted : List (Option Posted)) (version : ℕ)
+      → Does w (state_of tiers words old.sessions posted version) (orders.Frame i) (DidFrame (frame_of (state_of tiers words old.sessions posted version) i round.last round.done.round)) (state_of tiers words_now then.sessions posted version)
+  frame_printed then are printed w same tiers posted version =
       let a = state_of tiers words old.sessions posted version in
+      let changes = same_uses words_now now.sessions are i round.last (printed_once round.last) round.is (printed_uses round.last) (printed_locks round.last) then.sessions (ap (λ (seats : SeatsSeen). seats.sessions) printed) in
       let is = sym (seat_twice a i (Some round.last) (Some (printed_once round.last)))
-          ∙ ap (λ (b : State). seated b i (Some (printed_once round.last))) (sym (seat_changed words old.sessions many i number (Some round.last) words_now now.sessions round.changes tiers posted version))
-          ∙ sym (seat_changed words_now now.sessions many_now i number (Some (printed_once round.last)) words_then then.sessions changes tiers posted version) in
+          ∙ ap (λ (b : State). seated b i (Some (printed_once round.last))) (sym (seat_changed words old.sessions round.seats i round.number (Some round.last) words_now now.sessions round.changes tiers posted version))
+          ∙ sym (seat_changed words_now now.sessions seats_now i round.number (Some (printed_once round.last)) words_now then.sessions changes tiers posted version) in
       subst (Does w a (orders.Frame i) (DidFrame (frame_of a i round.last round.done.round))) is
       (DoesFrame i round.session round.last round.view round.tries round.done (at_start tiers posted version) round.viewed (made_there w same tiers posted version))

@@ -1,10 +1,12 @@
 -- Sessions at their seats, and the state of a run that they make with the tiers, the words and the board.
-use Rattle.std.specs.Prelude.{◌≡◌, ℕ, zero, suc, ◌+◌, Bool, List, length, replicate, Option, Some, None, is_some, slice_index_or}
+use Rattle.std.specs.Prelude.{◌≡◌, ℕ, zero, suc, ◌+◌, ◌-◌, List, length, replicate, Option, Some, None, slice_index_or, slice_set}
 use Rattle.std.specs.Option.{option_map}
 use Rattle.mesh_model.specs.Meshes.{MeshLists}
+use Rattle.round_model.specs.Refiners.{Refining}
 use Rattle.round_model.specs.Views.{ViewSeen}
 use Rattle.session_model.specs.Sessions.{SessionState, locks}
 use Rattle.session_model.specs.SessionStates.{IsSessionState}
+use Rattle.session_model.specs.DoneRounds.{HasDone}
 use Rattle.tier_model.specs.Tiers.{TierState}
 use Rattle.tier_model.specs.Ranks.{Posted}
 use Rattle.token_words.specs.PlainTokens.{epoch_in, is_user_in, is_locker_in}
@@ -24,9 +26,16 @@ pub record SeatsSeen : Type 0 where
   pub mesh : MeshLists
   pub sessions : List (Option SessionState)
 
--- seats for all sessions, none of them open
+-- a seat for each session, none of them open
 abbrev pub no_sessions : List (Option SessionState)
 no_sessions = replicate SESSIONS None
+
+abbrev pub empty_seats : MeshLists → SeatsSeen
+empty_seats mesh = record { mesh = mesh; sessions = no_sessions }
+
+-- this stands at the seat of this number, in place of what stood there
+abbrev pub with_seat : SeatsSeen → ℕ → Option SessionState → SeatsSeen
+with_seat seats i seat = record { mesh = seats.mesh; sessions = slice_set seats.sessions (i - 1) seat }
 
 -- ---- the state of a run
 
@@ -84,3 +93,16 @@ pub record HasView (sessions : List (Option SessionState)) (i : ℕ) : Type 0 wh
   pub at : at_seat sessions i ≡ Some session
   pub view : ViewSeen
   pub viewed : session.view ≡ Some view
+
+-- the session is open and has a round
+pub record HasRound (sessions : List (Option SessionState)) (i : ℕ) : Type 0 where
+  pub session : SessionState
+  pub at : at_seat sessions i ≡ Some session
+  pub round : Refining
+  pub there : session.round ≡ Some round
+
+-- the session is open, and its round is done and wasn't printed yet
+pub record IsDoneAt (sessions : List (Option SessionState)) (i : ℕ) : Type 0 where
+  pub session : SessionState
+  pub at : at_seat sessions i ≡ Some session
+  pub done : HasDone session
