@@ -1,2 +1,5 @@
-pub mod PartLaws
-pub mod CallLaws
+mod PartLaws
+mod CallLaws
+mod FreeParts
+mod Calls
+mod SeenLaws

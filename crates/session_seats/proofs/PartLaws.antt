@@ -76,7 +76,7 @@ are_seats_set mesh seats i seat are number here = record {
 
 -- ---- one session goes on
 
-words_many : (words : PlainTokens) → patch_count words ≡ length (words_seen words)
+words_many : (words : PlainTokens) → length (words_seen words) ≡ patch_count words
 words_many words = sym words.entries.ok.0
 
 module _ (mesh : MeshLists) (seats : List (Option Seat)) (words : PlainTokens) (i : ℕ) (old : Seat) (are : AreSeats mesh seats) (seated : AreSeated mesh (words_seen words) (sessions_of seats)) (at : at_seat seats i ≡ Some old) where
@@ -124,3 +124,20 @@ module _ (mesh : MeshLists) (seats : List (Option Seat)) (words : PlainTokens) (
         let over : IsSessionState mesh (seat_state new) = subst (λ (m : MeshLists). IsSessionState m (seat_state new)) new_seat.over keeps.is.is in
         seated_now (words_seen words) (sessions_of seats) many i number mesh (Some (seat_state new)) (words_seen now) (sessions_of after) changes
         (λ s same. subst (IsSessionState mesh) (same_Some (seat_state new) s same) over) seated
+
+-- ---- the seat that is found
+
+module _ (mesh : MeshLists) (seats : List (Option Seat)) (are : AreSeats mesh seats) (i : ℕ) (s : SessionState) (at : at_seat (sessions_of seats) i ≡ Some s) (o : Option Seat) (read : o ≡ slice_index_or seats (i - 1) o) where
+  found_number : IsSession i
+  found_number = seat_number (sessions_of seats) i s (sessions_many seats ∙ are.many) at
+
+  here : at_seat seats i ≡ o
+  here = seat_read seats i o are.many found_number read
+
+  pub found : (seat : Seat) → o ≡ Some seat → at_seat seats i ≡ Some seat
+  found seat is = here ∙ is
+
+  pub missing : o ≡ None → ⊥
+  missing none =
+      let seen = sym (at_sessions seats i) ∙ at in
+      let gone = ap (option_map seat_state) (here ∙ none) in cc

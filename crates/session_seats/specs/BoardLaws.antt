@@ -91,14 +91,14 @@ module _ (words : List Entry) (old : SeatsSeen) (many : length old.sessions ≡ 
   off_or_not true tiers = board_changed board i None is_for.many number few tiers words old.sessions
   off_or_not false tiers = refl
 
+  had_view : (tiers : List TierState) → is_some (view_on board i) ≡ is_some ((state_of tiers words old.sessions board.views board.version).posted i)
+  unfolding state_of
+  had_view tiers = ap (λ (o : Option Posted). is_some o) (view_there board i number)
+
   -- the state over a board that the session's view was taken off
-  off : (tiers : List TierState) → state_of tiers words old.sessions (without_view board i).views (without_view board i).version ≡ taken_off (state_of tiers words old.sessions board.views board.version) i
+  pub off : (tiers : List TierState) → state_of tiers words old.sessions (without_view board i).views (without_view board i).version ≡ taken_off (state_of tiers words old.sessions board.views board.version) i
   unfolding without_view
   off tiers = off_or_not (is_some (view_on board i)) tiers ∙ ap (λ (had : Bool). cond had (posting (state_of tiers words old.sessions board.views board.version) i None) (state_of tiers words old.sessions board.views board.version)) (had_view tiers)
-    where
-      had_view : (tiers : List TierState) → is_some (view_on board i) ≡ is_some ((state_of tiers words old.sessions board.views board.version).posted i)
-      unfolding state_of
-      had_view tiers = ap (λ (o : Option Posted). is_some o) (view_there board i number)
 
 -- ---- a session closes
 

@@ -27,11 +27,11 @@ use Rattle.run_model.specs.States.{State, seat_uses, seated}
 use Rattle.run_model.specs.Events.{Happens, Frees, Reaches, Stays, Then}
 use Rattle.run_model.specs.Events.{Steps as SessionSteps}
 use Rattle.run_model.specs.Freeing.{FreesAll}
-use Rattle.run_model.specs.Lines.{Did, DidOpen, DidView, DidStep, DidFrame, DidFree, DidClose, frame_of, Does, DoesOpen, DoesView, DoesStep, DoesFrame, DoesFree, DoesClose}
+use Rattle.run_model.specs.Lines.{Did, DidOpen, DidStep, DidFrame, DidFree, frame_of, Does, DoesOpen, DoesStep, DoesFrame, DoesFree}
 use Rattle.run_model.specs.SessionReach.{reaches_both, reaches_then, seat_twice, seat_at, seat_chain, GoesTo, steps_go, steps_view, made_by, goes_nowhere, frees_reach}
 use Rattle.session_seats.specs.Seats.{SeatsSeen, at_seat, with_seat, state_of, AreSeated}
 use Rattle.session_seats.specs.SeatChanges.{KeepsWords, ChangesSeat}
-use Rattle.session_seats.specs.Orders.{DoesOrder, DoesPosting, ReachesSeats, FinishesRound}
+use Rattle.session_seats.specs.Orders.{DoesOrder, ReachesSeats, FinishesRound, FreesUses}
 use Rattle.session_seats.specs.SeatLaws.{seat_changed, seat_again}
 
 -- ---- steps are events
@@ -76,7 +76,7 @@ settled_reach w a i s at same none =
 
 -- ---- sessions that change, but not in what they use
 
-printed_uses : (s : SessionState) (p : ℕ) → uses (printed_once s) p ≡ uses s p
+pub printed_uses : (s : SessionState) (p : ℕ) → uses (printed_once s) p ≡ uses s p
 unfolding printed_once
 printed_uses s p = refl
 
@@ -179,3 +179,7 @@ module _ (i : ℕ) (words : List Entry) (old : SeatsSeen) (words_now : List Entr
           ∙ sym (seat_changed words_now now.sessions seats_now i round.number (Some (printed_once round.last)) words_now then.sessions changes tiers posted version) in
       subst (Does w a (orders.Frame i) (DidFrame (frame_of a i round.last round.done.round))) is
       (DoesFrame i round.session round.last round.view round.tries round.done (at_start tiers posted version) round.viewed (made_there w same tiers posted version))
+
+-- a session gave back all that it used
+pub frees_all : (i : ℕ) (words : List Entry) (old : SeatsSeen) (unlocks : ℕ) (words_now : List Entry) (now : SeatsSeen) → AreSeated old.mesh words old.sessions → FreesUses i words old unlocks words_now now → DoesOrder (orders.Free i) (DidFree i unlocks) words old words_now now
+frees_all i words old unlocks words_now now are freed = frees old.mesh words old.sessions are freed.seats i freed.number words_now now freed.session freed.was unlocks freed.last freed.frees freed.changes
