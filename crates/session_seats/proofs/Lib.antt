@@ -3,3 +3,5 @@ mod CallLaws
 mod FreeParts
 mod Calls
 mod SeenLaws
+mod OpenLaws
+mod CloseLaws

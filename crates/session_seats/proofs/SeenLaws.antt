@@ -6,6 +6,7 @@ use Rattle.std.proofs.lemmas.Bool.{cases_lt}
 use Rattle.std.proofs.lemmas.List.{get_or_past, get_or-replicate, length-replicate}
 use Rattle.std.proofs.lemmas.Option.{same_Some}
 use Rattle.mesh_model.specs.Meshes.{MeshLists}
+use Rattle.round_model.specs.Refiners.{Refining}
 use Rattle.round_model.specs.Views.{ViewSeen}
 use Rattle.session_model.specs.Sessions.{SessionState, locks, uses, round_ended, with_view, printed_once}
 use Rattle.session_model.specs.SessionStates.{IsSessionState, like_uses, ended_like, viewed_is, viewed_locks, printed_is, printed_locks}
@@ -43,6 +44,12 @@ none_are mesh seats none = subst (AreSeats mesh) (sym none) (record {
 
 -- ---- a seat as it is seen
 
+pub round_missing : (s t : SessionState) (r : Refining) → s ≡ t → t.round ≡ Some r → s.round ≡ None → ⊥
+round_missing s t r same there none = let here = ap (λ (x : SessionState). x.round) same ∙ there in cc
+
+abbrev with_sessions : MeshLists → List (Option SessionState) → SeatsSeen
+with_sessions m xs = record { mesh = m; sessions = xs }
+
 some_map : (o : Option Seat) → is_some (option_map seat_state o) ≡ is_some o
 some_map None = refl
 some_map (Some seat) = refl
@@ -64,9 +71,6 @@ module _ (mesh : MeshLists) (seats : List (Option Seat)) (seen : SeatsSeen) (sam
   set_seen i seat =
       ap (λ (xs : List (Option SessionState)). with_sessions mesh xs) (sessions_set seats (i - 1) seat)
       ∙ ap (λ (x : SeatsSeen). with_seat x i (option_map seat_state seat)) same
-    where
-      abbrev with_sessions : MeshLists → List (Option SessionState) → SeatsSeen
-      with_sessions m xs = record { mesh = m; sessions = xs }
 
   module _ (i : ℕ) (s : SessionState) (at : at_seat seen.sessions i ≡ Some s) (o : Option Seat) (read : o ≡ slice_index_or seats (i - 1) o) (seat : Seat) (is : o ≡ Some seat) where
     -- the session that is seen is the seat's
@@ -97,6 +101,9 @@ module _ (mesh : MeshLists) (seats : List (Option Seat)) (seen : SeatsSeen) (sam
 
 -- ---- the session changed, and not what it uses
 
+abbrev no_words : List Entry
+no_words = []
+
 module _ (seen : SeatsSeen) (many : length seen.sessions ≡ SESSIONS) (i : ℕ) (number : IsSession i) (s : SessionState) (at : at_seat seen.sessions i ≡ Some s) where
   pub seated_as : (words : List Entry) → AreSeated seen.mesh words seen.sessions → (t : SessionState) → IsSessionState seen.mesh t → ((p : ℕ) → uses t p ≡ uses s p) → ((p : ℕ) → locks t p ≡ locks s p) → (new : SeatsSeen) → new ≡ with_seat seen i (Some t) → AreSeated new.mesh words new.sessions
   seated_as words are t is same_use same_lock new goes =
@@ -119,10 +126,7 @@ module _ (seen : SeatsSeen) (many : length seen.sessions ≡ SESSIONS) (i : ℕ)
   told_as t h is told tells new goes =
       let P : Option SessionTold → Type 0 = λ o. SetAt (told_at seen.sessions) i o (told_at new.sessions) in
       let first = same_Some (session_told s) told (sym (ap (option_map session_told) at) ∙ tells) in
-      subst P (ap Some (is ∙ ap h first)) (told_set (no_words) seen.sessions many i number (Some t) new.sessions (ap (λ (x : SeatsSeen). x.sessions) goes))
-    where
-      abbrev no_words : List Entry
-      no_words = []
+      subst P (ap Some (is ∙ ap h first)) (told_set no_words seen.sessions many i number (Some t) new.sessions (ap (λ (x : SeatsSeen). x.sessions) goes))
 
   pub told_as_printed : (told : SessionTold) → told_at seen.sessions i ≡ Some told → (new : SeatsSeen) → new ≡ with_seat seen i (Some (printed_once s)) → SetAt (told_at seen.sessions) i (Some (one_frame_more told)) (told_at new.sessions)
   told_as_printed told tells new goes = told_as (printed_once s) one_frame_more (told_printed s) told tells new goes
