@@ -5,3 +5,4 @@ mod Calls
 mod SeenLaws
 mod OpenLaws
 mod CloseLaws
+mod ViewLaws

@@ -28,17 +28,20 @@ use Rattle.session_seats.proofs.Calls.{there, found_seat}
 
 -- ---- no session
 
-none_at : (n i : ℕ) → at_seat (replicate n (None {A = Seat})) i ≡ None
+abbrev empty_seat : Option Seat
+empty_seat = None
+
+none_at : (n i : ℕ) → at_seat (replicate n empty_seat) i ≡ empty_seat
 none_at n zero = refl
 none_at n (suc i) =
     elim (cases_lt i n) [
-      | inl less ↦ get_or-replicate n None i None less
-      | inr more ↦ get_or_past (replicate n None) i None (let many = length-replicate n (None {A = Seat}) in omega (arith, many))
+      | inl less ↦ get_or-replicate n i empty_seat empty_seat less
+      | inr more ↦ get_or_past (replicate n empty_seat) i empty_seat (let many = length-replicate n empty_seat in omega (arith, many))
     ]
 
 pub none_are : (mesh : MeshLists) (seats : List (Option Seat)) → seats ≡ replicate SESSIONS None → AreSeats mesh seats
 none_are mesh seats none = subst (AreSeats mesh) (sym none) (record {
-  many = length-replicate SESSIONS (None {A = Seat});
+  many = length-replicate SESSIONS empty_seat;
   each = λ i seat at. absurd (let empty = none_at SESSIONS i in cc);
 })
 
@@ -115,7 +118,7 @@ module _ (seen : SeatsSeen) (many : length seen.sessions ≡ SESSIONS) (i : ℕ)
   pub seated_printed : (words : List Entry) → AreSeated seen.mesh words seen.sessions → (new : SeatsSeen) → new ≡ with_seat seen i (Some (printed_once s)) → AreSeated new.mesh words new.sessions
   seated_printed words are new goes = seated_as words are (printed_once s) (printed_is seen.mesh s (are.are i s at)) (printed_uses s) (printed_locks s) new goes
 
-  viewed_uses : (view : ViewSeen) → IsSessionState seen.mesh s → (p : ℕ) → uses (with_view view s) p ≡ uses s p
+  pub viewed_uses : (view : ViewSeen) → IsSessionState seen.mesh s → (p : ℕ) → uses (with_view view s) p ≡ uses s p
   unfolding with_view
   viewed_uses view is p = like_uses s (round_ended s) (ended_like seen.mesh s is) p
 

@@ -6,5 +6,6 @@ pub mod OrderLaws
 pub mod ToldLaws
 pub mod Boards
 pub mod BoardLaws
+pub mod StartLaws
 pub mod SeatParts
 pub mod SeatSteps
