@@ -1,5 +1,5 @@
 -- What is posted and taken off, as what its line orders.
-use Rattle.std.proofs.Common.{◌≡◌, ℕ, zero, suc, ◌+◌, ◌-◌, ◌<◌, ◌^◌, ◌%◌, Bool, true, false, cond, List, length, map, Option, Some, None, is_some, refl, sym, ap, subst, ◌∙◌, arith}
+use Rattle.std.proofs.Common.{◌≡◌, ℕ, zero, suc, ◌+◌, ◌-◌, ◌<◌, ◌≤◌, ◌^◌, ◌%◌, Bool, true, false, cond, List, length, map, Option, Some, None, is_some, refl, sym, ap, subst, ◌∙◌, arith}
 use Rattle.std.specs.Prelude.{slice_index_or, slice_set}
 use Rattle.std.proofs.Math.Nat.{mod-eq_of_lt}
 use Rattle.std.proofs.lemmas.List.{length-set}
@@ -62,6 +62,22 @@ pub taken_off_for : (mesh : MeshLists) (board : BoardSeen) (i : ℕ) → IsBoard
 unfolding without_view
 taken_off_for mesh board i is = chosen_for (is_some (view_on board i)) mesh board (board_with board i None) (posted_for mesh board i None is) is
 
+-- ---- its version
+
+-- a view that is posted raises the version by one,
+pub posted_version : (board : BoardSeen) (i : ℕ) (view : Option Posted) → board.version < 2 ^ 63 → (board_with board i view).version ≡ board.version + 1
+unfolding board_with
+posted_version board i view few = next_is board.version few
+
+chosen_version : (had : Bool) (board changed : BoardSeen) → changed.version ≡ board.version + 1 → (cond had changed board).version ≤ board.version + 1
+chosen_version true board changed is = omega arith
+chosen_version false board changed is = omega arith
+
+-- and one that is taken off at most by one
+pub taken_off_version : (board : BoardSeen) (i : ℕ) → board.version < 2 ^ 63 → (without_view board i).version ≤ board.version + 1
+unfolding without_view
+taken_off_version board i few = chosen_version (is_some (view_on board i)) board (board_with board i None) (posted_version board i None few)
+
 -- ---- a view is set and posted
 
 posted_by_view : (mesh : MeshLists) (view : ViewSeen) → posting_of (view_rules view mesh) ≡ record { scores = map (score_of view.eye view.focal) mesh.index.nodes; threshold = view.threshold }
@@ -74,16 +90,18 @@ module _ (words : List Entry) (old : SeatsSeen) (many : length old.sessions ≡ 
   stands tiers o at = at
 
   pub views : (s : SessionState) → at_seat old.sessions i ≡ Some s → (view : ViewSeen) (now : SeatsSeen) → ChangesSeat i (Some (with_view view s)) words old.sessions words now.sessions → (board_now : BoardSeen) → board_now ≡ posted_on board i view old.mesh → DoesPosting (orders.View i view) (DidView i) words old board.views board.version words now board_now.views board_now.version
-  views s at view now changes board_now posted = record { does = λ w same tiers.
-      let a = state_of tiers words old.sessions board.views board.version in
-      let on : Posted = posting_of (view_rules view old.mesh) in
-      let on_is : posted_by w view ≡ on = ap (λ (m : MeshLists). posting_of (view_rules view m)) same in
-      let is = ap (λ (p : Posted). posting (seated a i (Some (with_view view s))) i (Some p)) on_is
-          ∙ ap (λ (b : State). posting b i (Some on)) (sym (seat_changed words old.sessions many i number (Some (with_view view s)) words now.sessions changes tiers board.views board.version))
-          ∙ sym (board_changed board i (Some on) is_for.many number few tiers words now.sessions)
-          ∙ ap (λ (p : Posted). state_of tiers words now.sessions (board_with board i (Some p)).views (board_with board i (Some p)).version) (posted_by_view old.mesh view)
-          ∙ ap (λ (b : BoardSeen). state_of tiers words now.sessions b.views b.version) (sym posted) in
-      subst (Does w a (orders.View i view) (DidView i)) is (DoesView i s view (stands tiers (Some s) at)) }
+  views s at view now changes board_now posted = record {
+    does = λ w same tiers.
+        let a = state_of tiers words old.sessions board.views board.version in
+        let on : Posted = posting_of (view_rules view old.mesh) in
+        let on_is : posted_by w view ≡ on = ap (λ (m : MeshLists). posting_of (view_rules view m)) same in
+        let is = ap (λ (p : Posted). posting (seated a i (Some (with_view view s))) i (Some p)) on_is
+        ∙ ap (λ (b : State). posting b i (Some on)) (sym (seat_changed words old.sessions many i number (Some (with_view view s)) words now.sessions changes tiers board.views board.version))
+        ∙ sym (board_changed board i (Some on) is_for.many number few tiers words now.sessions)
+        ∙ ap (λ (p : Posted). state_of tiers words now.sessions (board_with board i (Some p)).views (board_with board i (Some p)).version) (posted_by_view old.mesh view)
+        ∙ ap (λ (b : BoardSeen). state_of tiers words now.sessions b.views b.version) (sym posted) in
+        subst (Does w a (orders.View i view) (DidView i)) is (DoesView i s view (stands tiers (Some s) at));
+  }
 
   off_or_not : (had : Bool) (tiers : List TierState)
       → state_of tiers words old.sessions (cond had (board_with board i None) board).views (cond had (board_with board i None) board).version
@@ -116,13 +134,15 @@ module _ (i : ℕ) (words : List Entry) (old : SeatsSeen) (unlocks : ℕ) (words
   }
 
   pub closes : (board : BoardSeen) → IsBoardFor old.mesh board → board.version < 2 ^ 63 → (now : SeatsSeen) → now.sessions ≡ slice_set mid.sessions (i - 1) None → (board_now : BoardSeen) → board_now ≡ without_view board i → DoesPosting (orders.Close i) (DidClose i unlocks) words old board.views board.version words_now now board_now.views board_now.version
-  closes board is_for few now left board_now is = record { does = λ w same tiers.
-      let a = state_of tiers words old.sessions board.views board.version in
-      let b = without_view board i in
-      let to = ap (λ (x : State). seated x i None) (sym (off words old freed.seats i freed.number board is_for few tiers))
-          ∙ sym (seat_twice (state_of tiers words old.sessions b.views b.version) i (Some freed.last) None)
-          ∙ ap (λ (x : State). seated x i None) (sym (seat_changed words old.sessions freed.seats i freed.number (Some freed.last) words_now mid.sessions freed.changes tiers b.views b.version))
-          ∙ sym (seat_changed words_now mid.sessions seats_now i freed.number None words_now now.sessions (leaves now left) tiers b.views b.version)
-          ∙ ap (λ (c : BoardSeen). state_of tiers words_now now.sessions c.views c.version) (sym is) in
-      subst (Does w a (orders.Close i) (DidClose i unlocks)) to
-      (DoesClose i unlocks freed.session freed.last (stands words old freed.seats i freed.number board is_for few tiers (Some freed.session) freed.was) freed.frees) }
+  closes board is_for few now left board_now is = record {
+    does = λ w same tiers.
+        let a = state_of tiers words old.sessions board.views board.version in
+        let b = without_view board i in
+        let to = ap (λ (x : State). seated x i None) (sym (off words old freed.seats i freed.number board is_for few tiers))
+        ∙ sym (seat_twice (state_of tiers words old.sessions b.views b.version) i (Some freed.last) None)
+        ∙ ap (λ (x : State). seated x i None) (sym (seat_changed words old.sessions freed.seats i freed.number (Some freed.last) words_now mid.sessions freed.changes tiers b.views b.version))
+        ∙ sym (seat_changed words_now mid.sessions seats_now i freed.number None words_now now.sessions (leaves now left) tiers b.views b.version)
+        ∙ ap (λ (c : BoardSeen). state_of tiers words_now now.sessions c.views c.version) (sym is) in
+        subst (Does w a (orders.Close i) (DidClose i unlocks)) to
+        (DoesClose i unlocks freed.session freed.last (stands words old freed.seats i freed.number board is_for few tiers (Some freed.session) freed.was) freed.frees);
+  }

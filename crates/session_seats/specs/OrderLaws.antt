@@ -111,41 +111,49 @@ module _ (mesh : MeshLists) (words : List Entry) (sessions : List (Option Sessio
 
   module _ (words_now : List Entry) (now : SeatsSeen) where
     pub opens : at_seat sessions i ≡ None → ChangesSeat i (Some (opened (length mesh.index.fields))) words sessions words_now now.sessions → DoesOrder (orders.Open i) (DidOpen i) words old words_now now
-    opens closed changes = record { does = λ w same tiers posted version.
-        let a = start tiers posted version in
-        let is = ap (λ (m : MeshLists). seated a i (Some (opened (length m.index.fields)))) same ∙ sym (seat_changed words sessions many i number (Some (opened (length mesh.index.fields))) words_now now.sessions changes tiers posted version) in
-        subst (Does w a (orders.Open i) (DidOpen i)) is (DoesOpen i number (stands None closed tiers posted version)) }
+    opens closed changes = record {
+      does = λ w same tiers posted version.
+          let a = start tiers posted version in
+          let is = ap (λ (m : MeshLists). seated a i (Some (opened (length m.index.fields)))) same ∙ sym (seat_changed words sessions many i number (Some (opened (length mesh.index.fields))) words_now now.sessions changes tiers posted version) in
+          subst (Does w a (orders.Open i) (DidOpen i)) is (DoesOpen i number (stands None closed tiers posted version));
+    }
 
     module _ (s : SessionState) (at : at_seat sessions i ≡ Some s) where
       pub steps : (view : ViewSeen) → s.view ≡ Some view → (did : Stepped) (t : SessionState) (epoch : ℕ) → stepped did t ≡ step mesh s epoch → IsOfEpochs (epoch_in words) did → ChangesSeat i (Some t) words sessions words_now now.sessions → DoesOrder (orders.Step i) (DidStep i did) words old words_now now
-      steps view viewed did t epoch is of_epochs changes = record { does = λ w same tiers posted version.
-          let a = start tiers posted version in
-          let made = made_by mesh (epoch_in words) s t did epoch is of_epochs in
-          let here : step_by w.mesh a.chain.epochs s ≡ stepped did t = ap (λ (m : MeshLists). step_by m a.chain.epochs s) same ∙ ap (λ (epochs : ℕ → ℕ). step_by mesh epochs s) (epochs_are tiers posted version) ∙ sym made in
-          let P : SessionStep → Type 0 = λ x. Does w a (orders.Step i) (DidStep i x.did) (seated a i (Some x.state)) in
-          subst (Does w a (orders.Step i) (DidStep i did)) (sym (seat_changed words sessions many i number (Some t) words_now now.sessions changes tiers posted version))
-          (subst P here (DoesStep i s view (stands (Some s) at tiers posted version) viewed)) }
+      steps view viewed did t epoch is of_epochs changes = record {
+        does = λ w same tiers posted version.
+            let a = start tiers posted version in
+            let made = made_by mesh (epoch_in words) s t did epoch is of_epochs in
+            let here : step_by w.mesh a.chain.epochs s ≡ stepped did t = ap (λ (m : MeshLists). step_by m a.chain.epochs s) same ∙ ap (λ (epochs : ℕ → ℕ). step_by mesh epochs s) (epochs_are tiers posted version) ∙ sym made in
+            let P : SessionStep → Type 0 = λ x. Does w a (orders.Step i) (DidStep i x.did) (seated a i (Some x.state)) in
+            subst (Does w a (orders.Step i) (DidStep i did)) (sym (seat_changed words sessions many i number (Some t) words_now now.sessions changes tiers posted version))
+            (subst P here (DoesStep i s view (stands (Some s) at tiers posted version) viewed));
+      }
 
       pub frees : (unlocks : ℕ) (t : SessionState) → FreesAll s unlocks t → ChangesSeat i (Some t) words sessions words_now now.sessions → DoesOrder (orders.Free i) (DidFree i unlocks) words old words_now now
-      frees unlocks t all changes = record { does = λ w same tiers posted version.
-          let a = start tiers posted version in
-          subst (Does w a (orders.Free i) (DidFree i unlocks)) (sym (seat_changed words sessions many i number (Some t) words_now now.sessions changes tiers posted version))
-          (DoesFree i unlocks s t (stands (Some s) at tiers posted version) all) }
+      frees unlocks t all changes = record {
+        does = λ w same tiers posted version.
+            let a = start tiers posted version in
+            subst (Does w a (orders.Free i) (DidFree i unlocks)) (sym (seat_changed words sessions many i number (Some t) words_now now.sessions changes tiers posted version))
+            (DoesFree i unlocks s t (stands (Some s) at tiers posted version) all);
+      }
 
       again : (tiers : List TierState) (posted : List (Option Posted)) (version : ℕ) → seated (start tiers posted version) i (Some s) ≡ start tiers posted version
       again tiers posted version = seat_again mesh words sessions i s are at tiers posted version
 
       -- steps were made, and then a printed round ended
       pub stops : (view : ViewSeen) → s.view ≡ Some view → (tries : List (ℕ × ℕ)) (last : SessionState) → Steps mesh true (epoch_in words) s tries last → last.flight ≡ None → ((p : ℕ) → is_left_over (settled last) p ≡ false) → ChangesSeat i (Some (settled last)) words sessions words_now now.sessions → ReachesSeats words old words_now now
-      stops view viewed tries last made none no_old changes = record { reaches = λ w same tiers posted version.
-          let a = start tiers posted version in
-          let b = seated a i (Some last) in
-          let P : MeshLists → Type 0 = λ m. Steps m true a.chain.epochs s tries last in
-          let Q : (ℕ → ℕ) → Type 0 = λ epochs. Steps mesh true epochs s tries last in
-          let first : Reaches w a b = steps_reach w a i s view (stands (Some s) at tiers posted version) viewed (again tiers posted version) tries last (subst P (sym same) (subst Q (sym (epochs_are tiers posted version)) made)) in
-          let then : Reaches w b (seated b i (Some (settled last))) = settled_reach w b i last (seat_at a i (Some last)) (seat_twice a i (Some last) (Some last)) none no_old in
-          subst (Reaches w a) (seat_twice a i (Some last) (Some (settled last)) ∙ sym (seat_changed words sessions many i number (Some (settled last)) words_now now.sessions changes tiers posted version))
-          (reaches_both w a b (seated b i (Some (settled last))) first then) }
+      stops view viewed tries last made none no_old changes = record {
+        reaches = λ w same tiers posted version.
+            let a = start tiers posted version in
+            let b = seated a i (Some last) in
+            let P : MeshLists → Type 0 = λ m. Steps m true a.chain.epochs s tries last in
+            let Q : (ℕ → ℕ) → Type 0 = λ epochs. Steps mesh true epochs s tries last in
+            let first : Reaches w a b = steps_reach w a i s view (stands (Some s) at tiers posted version) viewed (again tiers posted version) tries last (subst P (sym same) (subst Q (sym (epochs_are tiers posted version)) made)) in
+            let then : Reaches w b (seated b i (Some (settled last))) = settled_reach w b i last (seat_at a i (Some last)) (seat_twice a i (Some last) (Some last)) none no_old in
+            subst (Reaches w a) (seat_twice a i (Some last) (Some (settled last)) ∙ sym (seat_changed words sessions many i number (Some (settled last)) words_now now.sessions changes tiers posted version))
+            (reaches_both w a b (seated b i (Some (settled last))) first then);
+      }
 
 -- ---- a round that is finished, and its frame
 
@@ -160,10 +168,12 @@ module _ (i : ℕ) (words : List Entry) (old : SeatsSeen) (words_now : List Entr
 
   -- its steps are events
   pub finished_reaches : ReachesSeats words old words_now now
-  finished_reaches = record { reaches = λ w same tiers posted version.
-      let a = state_of tiers words old.sessions posted version in
-      subst (Reaches w a) (sym (seat_changed words old.sessions round.seats i round.number (Some round.last) words_now now.sessions round.changes tiers posted version))
-      (finishes_reach w a i round.session round.view (at_start tiers posted version) round.viewed round.tries round.last (made_there w same tiers posted version)) }
+  finished_reaches = record {
+    reaches = λ w same tiers posted version.
+        let a = state_of tiers words old.sessions posted version in
+        subst (Reaches w a) (sym (seat_changed words old.sessions round.seats i round.number (Some round.last) words_now now.sessions round.changes tiers posted version))
+        (finishes_reach w a i round.session round.view (at_start tiers posted version) round.viewed round.tries round.last (made_there w same tiers posted version));
+  }
 
   seats_now : length now.sessions ≡ SESSIONS
   seats_now = ap length round.changes.seats ∙ length-set old.sessions (i - 1) (Some round.last) ∙ round.seats
@@ -175,8 +185,8 @@ module _ (i : ℕ) (words : List Entry) (old : SeatsSeen) (words_now : List Entr
       let a = state_of tiers words old.sessions posted version in
       let changes = same_uses words_now now.sessions are i round.last (printed_once round.last) round.is (printed_uses round.last) (printed_locks round.last) then.sessions (ap (λ (seats : SeatsSeen). seats.sessions) printed) in
       let is = sym (seat_twice a i (Some round.last) (Some (printed_once round.last)))
-          ∙ ap (λ (b : State). seated b i (Some (printed_once round.last))) (sym (seat_changed words old.sessions round.seats i round.number (Some round.last) words_now now.sessions round.changes tiers posted version))
-          ∙ sym (seat_changed words_now now.sessions seats_now i round.number (Some (printed_once round.last)) words_now then.sessions changes tiers posted version) in
+      ∙ ap (λ (b : State). seated b i (Some (printed_once round.last))) (sym (seat_changed words old.sessions round.seats i round.number (Some round.last) words_now now.sessions round.changes tiers posted version))
+      ∙ sym (seat_changed words_now now.sessions seats_now i round.number (Some (printed_once round.last)) words_now then.sessions changes tiers posted version) in
       subst (Does w a (orders.Frame i) (DidFrame (frame_of a i round.last round.done.round))) is
       (DoesFrame i round.session round.last round.view round.tries round.done (at_start tiers posted version) round.viewed (made_there w same tiers posted version))
 

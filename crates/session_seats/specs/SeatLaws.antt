@@ -7,7 +7,8 @@ use Rattle.std.proofs.lemmas.Bool.{cases_eq}
 use Rattle.std.proofs.lemmas.List.{get_or-set_same, get_or-set_other}
 use Rattle.std.proofs.lemmas.Option.{same_Some}
 use Rattle.mesh_model.specs.Meshes.{MeshLists}
-use Rattle.session_model.specs.Sessions.{SessionState, locks, uses}
+use Rattle.round_model.specs.Views.{ViewSeen}
+use Rattle.session_model.specs.Sessions.{SessionState, locks}
 use Rattle.session_model.specs.SessionStates.{IsSessionState}
 use Rattle.tier_model.specs.Chains.{Chain}
 use Rattle.tier_model.specs.Tiers.{TierState}
@@ -19,7 +20,7 @@ use Rattle.token_words.specs.declared.entries.Entry.{Entry}
 use Rattle.token_words.specs.declared.session_sets.TheConstants.{SESSIONS}
 use Rattle.run_model.specs.States.{State, put, seat_uses, seated, posting}
 use Rattle.run_model.specs.SeatLaws.{put_here, put_other}
-use Rattle.session_seats.specs.Seats.{at_seat, state_of, AreSeated, SessionTold, session_told, told_at}
+use Rattle.session_seats.specs.Seats.{at_seat, state_of, AreSeated, IsOpen, HasView, SessionTold, session_told, told_at}
 use Rattle.session_seats.specs.SeatChanges.{KeepsWords, ChangesSeat}
 
 -- ---- one seat
@@ -135,3 +136,27 @@ pub view_posted : (posted : List (Option Posted)) → length posted ≡ SESSIONS
 unfolding state_of posting
 view_posted posted many i number view tiers words sessions version =
     ap (λ (views : ℕ → Option Posted). state_with tiers (epoch_in words) (is_user_in words) (at_seat sessions) views (version + 1)) (fun_ext (seat_set posted many i view number))
+
+-- ---- what is told
+
+of_some : (o : Option SessionState) (told : SessionTold) → option_map session_told o ≡ Some told → (s : SessionState) × (o ≡ Some s) × (session_told s ≡ told)
+of_some None told is = absurd (cc)
+of_some (Some s) told is = (s, refl, same_Some (session_told s) told is)
+
+-- a session of which something is told is open,
+pub open_where_told : (sessions : List (Option SessionState)) (i : ℕ) (told : SessionTold) → told_at sessions i ≡ Some told → IsOpen sessions i
+open_where_told sessions i told is = let there = of_some (at_seat sessions i) told is in record { session = there.0; at = there.1 }
+
+-- has the view that is told,
+pub view_where_told : (sessions : List (Option SessionState)) (i : ℕ) (told : SessionTold) (view : ViewSeen) → told_at sessions i ≡ Some told → told.view ≡ Some view → HasView sessions i
+view_where_told sessions i told view is viewed =
+    let there = of_some (at_seat sessions i) told is in
+    record { session = there.0; at = there.1; view = view; viewed = ap (λ (x : SessionTold). x.view) there.2 ∙ viewed }
+
+-- and where nothing is told it isn't open
+pub closed_where_untold : (sessions : List (Option SessionState)) (i : ℕ) → told_at sessions i ≡ None → at_seat sessions i ≡ None
+closed_where_untold sessions i is = of_none (at_seat sessions i) is
+  where
+    of_none : (o : Option SessionState) → option_map session_told o ≡ None → o ≡ None
+    of_none None untold = refl
+    of_none (Some s) untold = absurd (cc)

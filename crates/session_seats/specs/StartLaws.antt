@@ -39,11 +39,11 @@ views_from : (views : List (Option Posted)) (a : ℕ) (f : ℕ → Option Posted
 views_from [] a f same = refl
 views_from (v ∷ vs) a f same =
     let first : f a ≡ v = ap f (omega arith) ∙ same 0 (omega arith) in
-    let rest = views_from vs (suc a) f (λ k less. ap f (omega arith) ∙ same (suc k) (omega arith)) in
+    let rest = views_from vs (a + 1) f (λ k less. ap f (omega arith) ∙ same (suc k) (omega arith)) in
     cc
 
 -- the board's list is that of the views by number
 pub views_are : (views : List (Option Posted)) → length views ≡ SESSIONS → posted_views (at_seat views) ≡ views
 views_are views many =
     sym (ap (λ (n : ℕ). map (at_seat views) (range_with_len 1 n)) many)
-    ∙ views_from views 1 (at_seat views) (λ k less. ap (at_seat views) (omega arith))
+    ∙ views_from views 1 (at_seat views) (λ k less. let next : 1 + k ≡ suc k = omega arith in ap (at_seat views) next)

@@ -9,6 +9,3 @@ mod seats;
 
 pub use seats::Seats;
 pub use session_locks::Stepped;
-
-
-

@@ -56,7 +56,8 @@ impl<'m> Seats<'m> {
         requires view { HasView self.old.sessions session }
         requires seated { AreSeated self.old.mesh (words_seen words.old) self.old.sessions }
         ensures round { OnOk result
-            (FinishesRound session (words_seen words.old) self.old (words_seen words.new) self.new) }
+            (FinishesRound session (words_seen words.old) self.old (words_seen words.new)
+            self.new) }
         ensures none { OnErr result
             (ReachesSeats (words_seen words.old) self.old (words_seen words.new) self.new) }
         ensures seated { AreSeated self.new.mesh (words_seen words.new) self.new.sessions }
