@@ -16,3 +16,13 @@ pub mod RunTexts
 pub mod SessionReach
 pub mod LineLaws
 pub mod AnswerLaws
+pub mod PrintedFrames
+pub mod Kept
+pub mod KeptLaws
+pub mod RunLaws
+pub mod BlankTiers
+pub mod BlankRuns
+pub mod OneSession
+pub mod OneTurn
+pub mod OneSettling
+pub mod OneRun

@@ -36,8 +36,8 @@ closes w a i t (Some view) there unused =
     let still = ap (λ (posted : ℕ → Option Posted). posted i) (seat_posted a i (Some t)) ∙ there in
     let off : Happens w (seated a i (Some t)) (seated (posting a i None) i (Some t)) = subst (Happens w (seated a i (Some t))) (seat_then_post a i (Some t) None) (TakesOff i view still) in
     let end : Happens w (seated (posting a i None) i (Some t)) (seated (posting a i None) i None) =
-        subst (Happens w (seated (posting a i None) i (Some t))) (seat_twice (posting a i None) i (Some t) None)
-        (Ends i t (seat_at (posting a i None) i (Some t)) unused (ap (λ (posted : ℕ → Option Posted). posted i) (seat_posted (posting a i None) i (Some t)) ∙ posted_here a i None)) in
+    subst (Happens w (seated (posting a i None) i (Some t))) (seat_twice (posting a i None) i (Some t) None)
+    (Ends i t (seat_at (posting a i None) i (Some t)) unused (ap (λ (posted : ℕ → Option Posted). posted i) (seat_posted (posting a i None) i (Some t)) ∙ posted_here a i None)) in
     Then off (Then end Stays)
 
 pub does_reaches : (w : World) (a b : State) (order : Order) (did : Did) → Does w a order did b → Reaches w a b

@@ -57,7 +57,7 @@ base_is_marked mesh accepted p =
 
 -- ---- the opening
 
-opened_count : (index : IndexLists) (body : ℕ → SeenBody) (budgets : List ℕ) (width : ℕ) → length (opened_tiers index body budgets width) ≡ length budgets
+pub opened_count : (index : IndexLists) (body : ℕ → SeenBody) (budgets : List ℕ) (width : ℕ) → length (opened_tiers index body budgets width) ≡ length budgets
 unfolding opened_tiers
 opened_count index body [] width = refl
 opened_count index body (b ∷ bs) width = ap suc (length-map bs (λ c. fresh index c width))

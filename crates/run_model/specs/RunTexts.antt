@@ -6,6 +6,8 @@ use Rattle.script_model.specs.declared.orders.Line.{Line}
 use Rattle.script_model.specs.declared.orders.Order.{Order}
 use Rattle.tier_model.specs.declared.turns.Turn.{Turn}
 use Rattle.tier_model.specs.declared.turns.Turn.TheVariants.{Reserve, Evict, Kept, Got, Lost, Fault, Changed, Commit, Idle}
+use Rattle.tier_model.specs.Counts.{got_bytes, faults_in}
+use Rattle.tier_model.specs.Tiers.{sizes_of}
 use Rattle.run_model.specs.Worlds.{World, AreBaseBodies}
 use Rattle.run_model.specs.States.{State, opening}
 use Rattle.run_model.specs.Lines.{Did, DidOpen, DidView, DidStep, DidFrame, DidFree, DidClose, DidTurns, DidTell, Runs}
@@ -42,21 +44,40 @@ unfoldable pub turn_outcomes : World → List (ℕ × Turn) → List StoreOutcom
 turn_outcomes w [] = []
 turn_outcomes w (turn ∷ turns) = turn_outcome w turn ++ turn_outcomes w turns
 
+-- the turns that a line made, each with its tier's number
+abbrev pub turns_in : Did → List (ℕ × Turn)
+turns_in (DidTurns log) = log
+turns_in (DidOpen i) = []
+turns_in (DidView i) = []
+turns_in (DidStep i did) = []
+turns_in (DidFrame frame) = []
+turns_in (DidFree i unlocks) = []
+turns_in (DidClose i unlocks) = []
+turns_in (DidTell tiers) = []
+
 -- what came of the fetches of one line
 abbrev pub outcomes_of : World → Did → List StoreOutcome
-outcomes_of w (DidTurns log) = turn_outcomes w log
-outcomes_of w (DidOpen i) = []
-outcomes_of w (DidView i) = []
-outcomes_of w (DidStep i did) = []
-outcomes_of w (DidFrame frame) = []
-outcomes_of w (DidFree i unlocks) = []
-outcomes_of w (DidClose i unlocks) = []
-outcomes_of w (DidTell tiers) = []
+outcomes_of w did = turn_outcomes w (turns_in did)
 
 -- what came of all fetches from the store, in their order
 unfoldable pub store_outcomes : World → List Did → List StoreOutcome
 store_outcomes w [] = []
 store_outcomes w (did ∷ dids) = outcomes_of w did ++ store_outcomes w dids
+
+-- ---- what is counted of a line
+
+-- the turns of the lowest tier
+unfoldable pub lowest_turns : World → List (ℕ × Turn) → List Turn
+lowest_turns w [] = []
+lowest_turns w (turn ∷ turns) = if is_lowest w turn.0 then turn.1 ∷ lowest_turns w turns else lowest_turns w turns
+
+-- how many bytes of bodies came from the store
+abbrev pub bytes_from_store : World → Did → ℕ
+bytes_from_store w did = got_bytes (sizes_of w.mesh.index) (lowest_turns w (turns_in did))
+
+-- how often the store failed
+abbrev pub faults_of : World → Did → ℕ
+faults_of w did = faults_in (lowest_turns w (turns_in did))
 
 -- ---- the text
 

@@ -4,6 +4,7 @@ use Rattle.std.specs.List.{range_with_len}
 use Rattle.file_model.specs.Lists.{SeenBody}
 use Rattle.round_model.specs.Order.{Rules}
 use Rattle.round_model.specs.Views.{ViewSeen, view_rules}
+use Rattle.token_words.specs.declared.session_sets.TheConstants.{SESSIONS}
 use Rattle.session_model.specs.Sessions.{SessionState, uses}
 use Rattle.tier_model.specs.declared.turns.Turn.{Turn}
 use Rattle.tier_model.specs.Tiers.{TierState}
@@ -29,7 +30,7 @@ put f i x j = if j == i then x else f j
 
 -- the views that sessions posted, session 1's first
 abbrev pub posted_views : (ℕ → Option Posted) → List (Option Posted)
-posted_views posted = map posted (range_with_len 1 64)
+posted_views posted = map posted (range_with_len 1 SESSIONS)
 
 -- the wishes of the posted views, with their version
 unfoldable pub board_of : World → State → Board

@@ -135,8 +135,8 @@ odd_followed : (told : Told) (s : TierState) (o : Outcome) (x : Turn × TierStat
 unfolding epochs_after
 odd_followed told s o x pinned p tier (Commits q none bare first) tied within odd stays =
     ap is_odd (risen_other q told.epochs p (λ same.
-      let away = subst (λ (n : ℕ). is_held s n ≡ false) (sym same) (away_not_there s.held q (tier.coming.away q (first_comes s.coming q first))) in
-      let held = tied.held p within in cc)) ∙ odd
+    let away = subst (λ (n : ℕ). is_held s n ≡ false) (sym same) (away_not_there s.held q (tier.coming.away q (first_comes s.coming q first))) in
+    let held = tied.held p within in cc)) ∙ odd
 odd_followed told s o x pinned p tier (Evicts v none victim leaves unused) tied within odd stays = ap is_odd (risen_other v told.epochs p (stays v victim leaves unused)) ∙ odd
 odd_followed told s o x pinned p tier (Reserves c enters) tied within odd stays = odd
 odd_followed told s o x pinned p tier (Gets q body none bare has is) tied within odd stays = odd
@@ -184,7 +184,7 @@ stays_odd w a b (suc k) answer sound turn p within odd stays = odd
 -- ---- a turn keeps a state sound
 
 -- what holds of each tier, holds still after one is changed of which it holds
-each_set_tier : (P : ℕ → TierState → Type 0) (tiers : List TierState) (k : ℕ) (after : TierState) → ((j : ℕ) (t : TierState) → slice_get tiers j ≡ Some t → P j t) → P k after → (j : ℕ) (t : TierState) → slice_get (slice_set tiers k after) j ≡ Some t → P j t
+pub each_set_tier : (P : ℕ → TierState → Type 0) (tiers : List TierState) (k : ℕ) (after : TierState) → ((j : ℕ) (t : TierState) → slice_get tiers j ≡ Some t → P j t) → P k after → (j : ℕ) (t : TierState) → slice_get (slice_set tiers k after) j ≡ Some t → P j t
 each_set_tier P tiers k after each here j t at =
     elim (cases_eq j k) [
       | inl same ↦ subst (λ (n : ℕ). P n t) (sym same) (subst (P k) (get-set_same tiers k after t (subst (λ (n : ℕ). slice_get (slice_set tiers k after) n ≡ Some t) same at)) here)

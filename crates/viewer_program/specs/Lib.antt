@@ -4,3 +4,4 @@ pub mod Refusals
 pub mod Endings
 pub mod Told
 pub mod Numbered
+pub mod Strips

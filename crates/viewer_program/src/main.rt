@@ -8,6 +8,7 @@ mod faults;
 mod refusals;
 mod run;
 mod statuses;
+mod strips;
 #[cfg(test)]
 mod tests;
 mod texts;

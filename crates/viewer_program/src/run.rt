@@ -8,9 +8,11 @@ ghost use Rattle.view_outside.specs.OnlyRead.{OnlyIf};
 ghost use Rattle.viewer_program.specs.Commands.{command_in, name_in};
 ghost use Rattle.viewer_program.specs.Answers.{IsTextOf, IsOfAccepted, IsTextOfKind};
 ghost use Rattle.viewer_program.specs.Endings.{StopsAt, CanStop, Ends, IsChange, IsQuiet};
+ghost use Rattle.viewer_program.specs.Strips.{columns_in, IsStripText, IsForMemory};
 ghost use Rattle.viewer_program.specs.Told.{named_bytes};
 
 use crate::commands::{Command, command_of, file_name};
+use crate::strips::{strip_columns, write_strip};
 use crate::texts::command_text;
 use frame_writer::write_text;
 use std::alloc::Global;
@@ -52,6 +54,23 @@ fn run_command<S: Store, O: Sink>(
     }
 }
 
+// Runs a command that reads no file.
+fn run_without_file<O: Sink>(alloc: Global, words: &[String], sink: &mut O) -> Status
+    ensures usage { (result ≡ Usage) ↔ IsNone (columns_in (map string_bytes words.now)) }
+    ensures makes { IfSome (columns_in (map string_bytes words.now))
+        (λ columns. Ends (IsStripText columns) IsForMemory result (O.written sink.old)
+        (O.written sink.new)) }
+    ensures changed { IsChange result }
+    ensures quiet { IsQuiet result (O.written sink.old) (O.written sink.new) }
+    ensures read { result ≡ ReadFault → ⊥ }
+    ensures write_fault { OnlyIf WriteFault (Rose (O.faults sink.old) (O.faults sink.new)) result }
+{
+    match strip_columns(words) {
+        Some(columns) => write_strip(alloc, columns, sink),
+        None => Status::Usage,
+    }
+}
+
 /// Runs the command that the words name, on one thread. The words don't include the program's name.
 ///
 /// `docs/TEXTS.md` has the statuses. No command reads the script yet.
@@ -63,7 +82,9 @@ pub fn run_still<S: Store, I: Source, O: Sink>(
     sink: &mut O,
 ) -> Status
     // The words are no command exactly where the status is Usage.
-    ensures usage { (result ≡ Usage) ↔ IsNone (command_in (map string_bytes words.now)) }
+    ensures usage { (result ≡ Usage)
+        ↔ (IsNone (command_in (map string_bytes words.now))
+        × IsNone (columns_in (map string_bytes words.now))) }
     // What each status means where the store tells the bytes of the named file.
     ensures told { IfSome (command_in (map string_bytes words.now))
         (λ command.
@@ -78,6 +99,13 @@ pub fn run_still<S: Store, I: Source, O: Sink>(
         (O.written sink.new)) }
     // A change is told with a fault that the patch's body can have.
     ensures changed { IsChange result }
+    // A strip is written whole, but for a sink that fails and for want of memory,
+    ensures makes { IfSome (columns_in (map string_bytes words.now))
+        (λ columns. Ends (IsStripText columns) IsForMemory result (O.written sink.old)
+        (O.written sink.new)) }
+    // and the store isn't asked for it.
+    ensures alone { IfSome (columns_in (map string_bytes words.now)) (λ _.
+        (S.files store.new ≡ S.files store.old) × (S.faults store.new ≡ S.faults store.old)) }
     // The script is left as it was.
     ensures script { (I.rest _script.new ≡ I.rest _script.old)
         × (I.faults _script.new ≡ I.faults _script.old) }
@@ -95,6 +123,6 @@ pub fn run_still<S: Store, I: Source, O: Sink>(
 {
     match command_of(words) {
         Some(command) => run_command(alloc, command, file_name(words), store, sink),
-        None => Status::Usage,
+        None => run_without_file(alloc, words, sink),
     }
 }

@@ -1,0 +1,6 @@
+use Rattle.std.proofs.Common.{arith}
+use Rattle.strip_laws.specs.StripBodies.{left_is_body}
+use Rattle.mesh_maker.proofs.patches.add_left.Goals as goal
+
+pub add_patch-requires-clause-rules : goal.add_patch-requires-clause-rules
+add_patch-requires-clause-rules c = rw (c.low.ensures, c.low-2.ensures, c.high.ensures, c.middle.ensures) (left_is_body c.args.version c.args.column (omega arith))

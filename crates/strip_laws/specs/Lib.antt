@@ -1,0 +1,13 @@
+pub mod Strip
+pub mod Kinds
+pub mod Picks
+pub mod EdgeNets
+pub mod StripGraph
+pub mod NodeNets
+pub mod StripNodes
+pub mod StripCounts
+pub mod StripBodies
+pub mod StripRules
+pub mod StripFrames
+pub mod Borders
+pub mod StripBorder
