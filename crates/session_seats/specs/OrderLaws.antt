@@ -166,6 +166,10 @@ module _ (i : ℕ) (words : List Entry) (old : SeatsSeen) (words_now : List Entr
   unfolding state_of
   made_there w same tiers posted version = let P : MeshLists → Type 0 = λ m. Finishes m true (epoch_in words) round.session round.tries round.last in subst P (sym same) round.finishes
 
+  tiers_are : (tiers : List TierState) (posted : List (Option Posted)) (version : ℕ) → (state_of tiers words old.sessions posted version).chain.tiers ≡ tiers
+  unfolding state_of
+  tiers_are tiers posted version = refl
+
   -- its steps are events
   pub finished_reaches : ReachesSeats words old words_now now
   finished_reaches = record {
@@ -180,15 +184,17 @@ module _ (i : ℕ) (words : List Entry) (old : SeatsSeen) (words_now : List Entr
 
   -- once it is printed, the line of a frame was done
   pub frame_printed : (then : SeatsSeen) → AreSeated old.mesh words_now now.sessions → then ≡ with_seat now i (Some (printed_once round.last)) → (w : World) → w.mesh ≡ old.mesh → (tiers : List TierState) (posted : List (Option Posted)) (version : ℕ)
-      → Does w (state_of tiers words old.sessions posted version) (orders.Frame i) (DidFrame (frame_of (state_of tiers words old.sessions posted version) i round.last round.done.round)) (state_of tiers words_now then.sessions posted version)
+      → Does w (state_of tiers words old.sessions posted version) (orders.Frame i) (DidFrame (frame_of tiers i round.last round.done.round)) (state_of tiers words_now then.sessions posted version)
   frame_printed then are printed w same tiers posted version =
       let a = state_of tiers words old.sessions posted version in
       let changes = same_uses words_now now.sessions are i round.last (printed_once round.last) round.is (printed_uses round.last) (printed_locks round.last) then.sessions (ap (λ (seats : SeatsSeen). seats.sessions) printed) in
       let is = sym (seat_twice a i (Some round.last) (Some (printed_once round.last)))
       ∙ ap (λ (b : State). seated b i (Some (printed_once round.last))) (sym (seat_changed words old.sessions round.seats i round.number (Some round.last) words_now now.sessions round.changes tiers posted version))
       ∙ sym (seat_changed words_now now.sessions seats_now i round.number (Some (printed_once round.last)) words_now then.sessions changes tiers posted version) in
-      subst (Does w a (orders.Frame i) (DidFrame (frame_of a i round.last round.done.round))) is
-      (DoesFrame i round.session round.last round.view round.tries round.done (at_start tiers posted version) round.viewed (made_there w same tiers posted version))
+      subst (Does w a (orders.Frame i) (DidFrame (frame_of tiers i round.last round.done.round))) is
+      (let P : List TierState → Type 0 = λ ts. Does w a (orders.Frame i) (DidFrame (frame_of ts i round.last round.done.round)) (seated a i (Some (printed_once round.last))) in
+      subst P (tiers_are tiers posted version)
+      (DoesFrame i round.session round.last round.view round.tries round.done (at_start tiers posted version) round.viewed (made_there w same tiers posted version)))
 
 -- a session gave back all that it used
 pub frees_all : (i : ℕ) (words : List Entry) (old : SeatsSeen) (unlocks : ℕ) (words_now : List Entry) (now : SeatsSeen) → AreSeated old.mesh words old.sessions → FreesUses i words old unlocks words_now now → DoesOrder (orders.Free i) (DidFree i unlocks) words old words_now now
