@@ -9,3 +9,10 @@ pub mod BodyLaws
 pub mod TurnLaws
 pub mod SafeLaws
 pub mod OpeningLaws
+pub mod Freeing
+pub mod Lines
+pub mod LineTexts
+pub mod RunTexts
+pub mod SessionReach
+pub mod LineLaws
+pub mod AnswerLaws

@@ -9,7 +9,7 @@ use Rattle.file_model.specs.Tries.{is_odd}
 use Rattle.session_model.specs.Sessions.{SessionState, locks, is_in_flight, uses}
 use Rattle.tier_model.specs.declared.turns.Turn.{Turn}
 use Rattle.tier_model.specs.declared.turns.Turn.TheVariants.{Reserve, Evict, Kept, Got, Lost, Fault, Changed, Commit, Idle}
-use Rattle.tier_model.specs.Places.{is_marked, first_bare}
+use Rattle.tier_model.specs.Places.{is_marked}
 use Rattle.tier_model.specs.Tiers.{TierState, count, is_held, body_at, IsBodyFor, IsTier, sizes_of}
 use Rattle.tier_model.specs.Choices.{Told}
 use Rattle.tier_model.specs.Answers.{IfGot}
@@ -27,7 +27,7 @@ use Rattle.tier_model.specs.ChainLaws.{AreTiers, IsTopTied, tied_turned}
 use Rattle.token_words.specs.Sessions.{IsSession, session_count, none-session_count}
 use Rattle.run_model.specs.Worlds.{World, is_base, IsFileBody}
 use Rattle.run_model.specs.States.{State, board_of, seat_uses, moved}
-use Rattle.run_model.specs.Turning.{GivesHeld, GivesStored, GivesBelow, uses_of, found_by, TurnsTo}
+use Rattle.run_model.specs.Turning.{GivesHeld, GivesStored, GivesBelow, IfFetched, uses_of, found_by, TurnsTo}
 use Rattle.run_model.specs.Safe.{IsSetUp}
 use Rattle.run_model.specs.Sound.{IsTierOf, IsSeated, IsSound, many_patches, base_within, locked_within}
 use Rattle.run_model.specs.BodyLaws.{bodies-turned}
@@ -58,16 +58,16 @@ own_turn board told s o answer after tier is =
 
 -- ---- the body that comes
 
-got_followed : (P : ℕ → SeenBody → Type 0) (told : Told) (s : TierState) (o : Outcome) (x : Turn × TierState) → IsTier s → Follows told s o x → ((p : ℕ) (body : SeenBody) → first_bare s.coming ≡ Some p → told.has p ≡ true → o.fetched ≡ Came body → P p body) → IfGot x.0 (λ p. P p (body_at x.1 p))
-got_followed P told s o x tier (Gets p body none bare has is) gives = subst (P p) (sym (body_arrived s p body tier (bare_comes s.coming p bare))) (gives p body bare has is)
-got_followed P told s o x tier (Reserves c enters) gives = tt
-got_followed P told s o x tier (Loses p none bare has) gives = tt
-got_followed P told s o x tier (Fails p none bare has is) gives = tt
-got_followed P told s o x tier (Breaks p fault none bare has is) gives = tt
-got_followed P told s o x tier (Commits p none bare first) gives = tt
-got_followed P told s o x tier (Evicts v none victim leaves unused) gives = tt
-got_followed P told s o x tier (Keeps v uses none victim leaves top is) gives = tt
-got_followed P told s o x tier (Rests rest) gives = tt
+got_followed : (P : ℕ → SeenBody → Type 0) (Q : ℕ → Fetched → Type 0) (told : Told) (s : TierState) (o : Outcome) (x : Turn × TierState) → IsTier s → Follows told s o x → IfFetched x.0 (λ p. Q p o.fetched) → ((p : ℕ) (body : SeenBody) → told.has p ≡ true → Q p (Came body) → P p body) → IfGot x.0 (λ p. P p (body_at x.1 p))
+got_followed P Q told s o x tier (Gets p body none bare has is) gives right = subst (P p) (sym (body_arrived s p body tier (bare_comes s.coming p bare))) (right p body has (subst (Q p) is gives))
+got_followed P Q told s o x tier (Reserves c enters) gives right = tt
+got_followed P Q told s o x tier (Loses p none bare has) gives right = tt
+got_followed P Q told s o x tier (Fails p none bare has is) gives right = tt
+got_followed P Q told s o x tier (Breaks p fault none bare has is) gives right = tt
+got_followed P Q told s o x tier (Commits p none bare first) gives right = tt
+got_followed P Q told s o x tier (Evicts v none victim leaves unused) gives right = tt
+got_followed P Q told s o x tier (Keeps v uses none victim leaves top is) gives right = tt
+got_followed P Q told s o x tier (Rests rest) gives right = tt
 
 -- the tier below gives a body of the file, and so does the store
 file_from_below : (w : World) (a : State) (k p : ℕ) (body : SeenBody) → IsSound w a → has_below a.chain.tiers k p ≡ true → GivesBelow w a.chain.tiers k p (Came body) → IsFileBody w p body
@@ -88,28 +88,27 @@ module _ (w : World) (a b : State) (k : ℕ) (answer : Turn) (sound : IsSound w 
   now_tier : IsTier now
   now_tier = IsTier-begun (board_of w a) turn.before was_tier.tier
 
-  rule : Follows (told_at a.chain k) now (found_by w a k turn.before turn.fetched) (paired answer turn.after)
-  rule = turn_rule (board_of w a) (told_at a.chain k) turn.before (found_by w a k turn.before turn.fetched) (paired answer turn.after) turn.turns
+  abbrev found : Outcome
+  found = found_by w a k turn.before turn.fetched
 
-  fetched_is : (body : SeenBody) → (found_by w a k turn.before turn.fetched).fetched ≡ Came body → turn.fetched ≡ Came body
+  rule : Follows (told_at a.chain k) now found (paired answer turn.after)
+  rule = turn_rule (board_of w a) (told_at a.chain k) turn.before found (paired answer turn.after) turn.turns
+
+  gives_found : IfFetched answer (λ p. GivesBelow w a.chain.tiers k p found.fetched)
   unfolding found_by
-  fetched_is body is = is
-
-  given_of_file : (p : ℕ) (body : SeenBody) → first_bare now.coming ≡ Some p → (told_at a.chain k).has p ≡ true → (found_by w a k turn.before turn.fetched).fetched ≡ Came body → IsFileBody w p body
-  given_of_file p body bare has is =
-      file_from_below w a k p body sound has
-      (subst (GivesBelow w a.chain.tiers k p) (fetched_is body is) (turn.gives p (sym (ap first_bare (begun_places (board_of w a) turn.before).coming) ∙ bare)))
+  gives_found = turn.gives
 
   pub got_file_body : IfGot answer (λ p. IsFileBody w p (body_at turn.after p))
-  got_file_body = got_followed (IsFileBody w) (told_at a.chain k) now (found_by w a k turn.before turn.fetched) (paired answer turn.after) now_tier rule given_of_file
+  got_file_body = got_followed (IsFileBody w) (GivesBelow w a.chain.tiers k) (told_at a.chain k) now found (paired answer turn.after) now_tier rule gives_found
+      (λ p body has given. file_from_below w a k p body sound has given)
 
   got_right_body : IfGot answer (λ p. IsBodyFor turn.before.sizes p (body_at turn.after p))
   got_right_body =
-      got_followed (IsBodyFor turn.before.sizes) (told_at a.chain k) now (found_by w a k turn.before turn.fetched) (paired answer turn.after) now_tier rule
-      (λ p body bare has is. subst (λ (sizes : List ℕ). IsBodyFor sizes p body) (sym was_tier.set_up.made.sizes) (given_of_file p body bare has is).of_patch)
+      got_followed (IsBodyFor turn.before.sizes) (GivesBelow w a.chain.tiers k) (told_at a.chain k) now found (paired answer turn.after) now_tier rule gives_found
+      (λ p body has given. subst (λ (sizes : List ℕ). IsBodyFor sizes p body) (sym was_tier.set_up.made.sizes) (file_from_below w a k p body sound has given).of_patch)
 
   pub is_turn : IsTurn (board_of w a) (told_at a.chain k) turn.before answer turn.after
-  is_turn = own_turn (board_of w a) (told_at a.chain k) turn.before (found_by w a k turn.before turn.fetched) answer turn.after was_tier.tier turn.turns
+  is_turn = own_turn (board_of w a) (told_at a.chain k) turn.before found answer turn.after was_tier.tier turn.turns
 
   -- the chain makes the turn
   pub moved_chain : TurnsAt (board_of w a) k answer a.chain (moved a k answer turn.after).chain

@@ -1,7 +1,7 @@
 -- One turn of one tier in a state: what it is told, and what it finds outside.
 use Rattle.std.specs.Prelude.{◌≡◌, ℕ, suc, Bool, true, List, Option, Some, None, slice_get, MatchOption}
 use Rattle.tier_model.specs.declared.turns.Turn.{Turn}
-use Rattle.tier_model.specs.Places.{first_bare}
+use Rattle.tier_model.specs.declared.turns.Turn.TheVariants.{Reserve, Evict, Kept, Got, Lost, Fault, Changed, Commit, Idle}
 use Rattle.tier_model.specs.Tiers.{TierState, is_held}
 use Rattle.tier_model.specs.Turns.{Fetched, Came, Failed, Broken, Outcome, paired, leaving, begun, turn_of}
 use Rattle.tier_model.specs.Chains.{told_at}
@@ -27,6 +27,18 @@ GivesStored w p (Broken fault) = Unit {0}
 abbrev pub GivesBelow : World → List TierState → ℕ → ℕ → Fetched → Type 0
 GivesBelow w tiers k p fetched = MatchOption (slice_get tiers (suc k)) (GivesStored w p fetched) (λ (below : TierState). is_held below p ≡ true → GivesHeld below p fetched)
 
+-- of the patch whose fetch gave a body or failed, by the answer of the turn
+abbrev pub IfFetched : Turn → (ℕ → Type 0) → Type 0
+IfFetched (Got p) P = P p
+IfFetched (Fault p) P = P p
+IfFetched (Changed p fault) P = P p
+IfFetched (Reserve p) P = Unit {0}
+IfFetched (Evict p) P = Unit {0}
+IfFetched (Kept p uses) P = Unit {0}
+IfFetched (Lost p) P = Unit {0}
+IfFetched (Commit p) P = Unit {0}
+IfFetched Idle P = Unit {0}
+
 -- ---- the turn
 
 -- the uses of the patch that is to leave: the sessions that use it, since it has no pin
@@ -47,7 +59,7 @@ pub record TurnsTo (w : World) (k : ℕ) (a : State) (answer : Turn) (b : State)
   pub before : TierState
   pub was : slice_get a.chain.tiers k ≡ Some before
   pub fetched : Fetched
-  pub gives : (p : ℕ) → first_bare before.coming ≡ Some p → GivesBelow w a.chain.tiers k p fetched
+  pub gives : IfFetched answer (λ p. GivesBelow w a.chain.tiers k p fetched)
   pub after : TierState
   pub turns : paired answer after ≡ turn_at w a k before fetched
   pub is : b ≡ moved a k answer after
