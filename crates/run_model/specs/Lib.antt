@@ -16,3 +16,11 @@ pub mod RunTexts
 pub mod SessionReach
 pub mod LineLaws
 pub mod AnswerLaws
+pub mod PrintedFrames
+pub mod Kept
+pub mod KeptLaws
+pub mod RunLaws
+pub mod BlankTiers
+pub mod BlankRuns
+pub mod OneSession
+pub mod OneTurn

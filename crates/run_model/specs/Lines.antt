@@ -53,14 +53,14 @@ abbrev pub top_body : List TierState → ℕ → SeenBody
 top_body tiers p = option_map_or (λ (top : TierState). unwrap_or (slice_index_or top.held p None) no_body) (slice_get tiers 0) no_body
 
 -- the session's next frame: its round's cut, answers and patches, and the triangles of their bodies in the top tier
-unfoldable pub frame_of : State → ℕ → SessionState → Refining → Frame
-frame_of a i s round = record {
+unfoldable pub frame_of : List TierState → ℕ → SessionState → Refining → Frame
+frame_of tiers i s round = record {
   session = i;
   number = s.frames + 1;
   cut = cut_of round;
   tries = round.tries;
   patches = cut_patches round;
-  triangles = flat_map (λ (body : SeenBody). triangles_of body.lists) (map (top_body a.chain.tiers) (cut_patches round));
+  triangles = flat_map (λ (body : SeenBody). triangles_of body.lists) (map (top_body tiers) (cut_patches round));
 }
 
 -- ---- turns
@@ -91,7 +91,7 @@ pub data Does (w : World) : State → Order → Did → State → Type 0 where
   DoesStep : {a : State} (i : ℕ) (s : SessionState) (view : ViewSeen) → a.sessions i ≡ Some s → s.view ≡ Some view → Does w a (orders.Step i) (DidStep i (step_by w.mesh a.chain.epochs s).did) (seated a i (Some (step_by w.mesh a.chain.epochs s).state))
   -- it makes steps until its round is done, which is printed
   DoesFrame : {a : State} (i : ℕ) (s t : SessionState) (view : ViewSeen) (tries : List (ℕ × ℕ)) (done : HasDone t) → a.sessions i ≡ Some s → s.view ≡ Some view → Finishes w.mesh true a.chain.epochs s tries t
-      → Does w a (orders.Frame i) (DidFrame (frame_of a i t done.round)) (seated a i (Some (printed_once t)))
+      → Does w a (orders.Frame i) (DidFrame (frame_of a.chain.tiers i t done.round)) (seated a i (Some (printed_once t)))
   -- it gives back all that it uses
   DoesFree : {a : State} (i unlocks : ℕ) (s t : SessionState) → a.sessions i ≡ Some s → FreesAll s unlocks t → Does w a (orders.Free i) (DidFree i unlocks) (seated a i (Some t))
   -- it does so, its view is taken off, and it ends

@@ -184,7 +184,7 @@ stays_odd w a b (suc k) answer sound turn p within odd stays = odd
 -- ---- a turn keeps a state sound
 
 -- what holds of each tier, holds still after one is changed of which it holds
-each_set_tier : (P : ℕ → TierState → Type 0) (tiers : List TierState) (k : ℕ) (after : TierState) → ((j : ℕ) (t : TierState) → slice_get tiers j ≡ Some t → P j t) → P k after → (j : ℕ) (t : TierState) → slice_get (slice_set tiers k after) j ≡ Some t → P j t
+pub each_set_tier : (P : ℕ → TierState → Type 0) (tiers : List TierState) (k : ℕ) (after : TierState) → ((j : ℕ) (t : TierState) → slice_get tiers j ≡ Some t → P j t) → P k after → (j : ℕ) (t : TierState) → slice_get (slice_set tiers k after) j ≡ Some t → P j t
 each_set_tier P tiers k after each here j t at =
     elim (cases_eq j k) [
       | inl same ↦ subst (λ (n : ℕ). P n t) (sym same) (subst (P k) (get-set_same tiers k after t (subst (λ (n : ℕ). slice_get (slice_set tiers k after) n ≡ Some t) same at)) here)

@@ -1,4 +1,4 @@
-use Rattle.run_model.proofs.what_a_safe_state_promises.Goals as goal
+use Rattle.run_model.proofs.states.a_safe_state_keeps_its_promises.Goals as goal
 
 pub returns-clause-locked : goal.returns-clause-locked
 returns-clause-locked c = λ w a safe i s at p locked. safe.locked_are_held i s p at locked
