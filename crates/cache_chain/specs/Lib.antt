@@ -1,0 +1,13 @@
+pub mod ChainStates
+pub mod Turning
+pub mod WordTurns
+pub mod LowerTurns
+pub mod BodyLaws
+pub mod ChainLaws
+pub mod TurnRuns
+pub mod RunLaws
+pub mod OpeningFacts
+pub mod Opening
+pub mod Refusals
+pub mod BaseLaws
+pub mod SettleRuns
