@@ -1,8 +1,7 @@
 -- Why a chain doesn't start, and what that says of the budget and the store.
-use Rattle.std.specs.Prelude.{◌≡◌, ℕ, ◌<◌, ◌≤◌, List, Option, Result, IfErr}
+use Rattle.std.specs.Prelude.{◌≡◌, ℕ, ◌<◌, List}
 use Rattle.view_outside.specs.Faults.{Rose}
-use Rattle.view_outside.specs.Files.{Named}
-use Rattle.view_outside.specs.Taken.{RisesBelow, RisesAtMost}
+use Rattle.view_outside.specs.Taken.{RisesBelow}
 use Rattle.file_model.specs.Lists.{IndexLists}
 use Rattle.mesh_model.specs.Graph.{outgoing}
 use Rattle.mesh_model.specs.Meshes.{MeshLists}
@@ -50,10 +49,3 @@ HasReason need faults later taken now ReadFault = Rose faults later × RisesBelo
 HasReason need faults later taken now (Budget n g) = (later ≡ faults) × (now ≡ taken)
 HasReason need faults later taken now (Changed patch fault) = Unit {0}
 HasReason need faults later taken now Memory = Unit {0}
-
--- without a chain the store is as it was, but for its counts
-pub record LeavesStore {T : Type 0} (need : ℕ) (before after : Option (List Named)) (faults faults_now bytes bytes_now : ℕ) (result : Result T StartRefusal) : Type 0 where
-  pub files : after ≡ before
-  pub later : faults ≤ faults_now
-  pub most : RisesAtMost bytes bytes_now need
-  pub reason : IfErr result (HasReason need faults faults_now bytes bytes_now)

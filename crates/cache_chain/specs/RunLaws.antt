@@ -1,8 +1,10 @@
 -- What turns of a chain keep, one after the other.
-use Rattle.std.proofs.Common.{◌≡◌, ℕ, ◌≤◌, Bool, true, List, [], ◌∷◌, ◌++◌, refl, sym, ap, subst, ◌∙◌, inl, inr, arith, append_assoc, append-nil}
+use Rattle.std.proofs.Common.{◌≡◌, ℕ, ◌≤◌, Bool, true, List, [], ◌∷◌, ◌++◌, Result, Ok, Err, IfOk, OnErr, refl, sym, ap, subst, ◌∙◌, inl, inr, arith, append_assoc, append-nil}
 use Rattle.view_outside.specs.Taken.{taken_after-zero}
 use Rattle.tier_model.specs.declared.turns.Turn.{Turn}
+use Rattle.cache_chain.specs.declared.parts.TurnLine.{TurnLine}
 use Rattle.cache_chain.specs.WordTurns.{WordsSeen}
+use Rattle.cache_chain.specs.SettleRuns.{LogsSettling, LogsStop}
 use Rattle.cache_chain.specs.TurnRuns.{Setting, Moment, KeepsSets, MakesTurn, MakesTurns, Begins, Then, RefusesTurn, StopsTurns}
 
 -- turns and then more turns
@@ -61,3 +63,13 @@ refuses_before u k m = record {
   upper = λ t at. refl;
   later = omega arith;
 }
+
+-- ---- a settling, whether it ended or was refused memory
+
+pub settling_sets : {E : Type 0} (u : Setting) (n : ℕ) (before after : Moment) (old new : List TurnLine) (result : Result (Unit {0}) E) → IfOk result (λ _. LogsSettling u n before after old new) → OnErr result (LogsStop u before after old new) → KeepsSets u before.words after.words
+settling_sets u n before after old new (Ok x) settled stopped = sets_kept u before after settled.made settled.turns
+settling_sets u n before after old new (Err e) settled stopped = sets_at_stop u before after stopped.made stopped.stops
+
+pub settling_later : {E : Type 0} (u : Setting) (n : ℕ) (before after : Moment) (old new : List TurnLine) (result : Result (Unit {0}) E) → IfOk result (λ _. LogsSettling u n before after old new) → OnErr result (LogsStop u before after old new) → before.faults ≤ after.faults
+settling_later u n before after old new (Ok x) settled stopped = faults_later u before after settled.made settled.turns
+settling_later u n before after old new (Err e) settled stopped = faults_at_stop u before after stopped.made stopped.stops

@@ -14,6 +14,7 @@ mod tier_turns;
 mod turning;
 
 pub use chains::TierChain;
+pub use opening::open_tiers;
 pub use parts::{ChainParts, TurnLine};
 pub use refusals::StartRefusal;
 pub use tier_budget::{Tier, Turn};

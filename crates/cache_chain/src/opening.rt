@@ -1,6 +1,6 @@
 //! How the tiers of a chain open.
 
-ghost use Rattle.std.specs.Prelude.{◌≡◌, ◌+◌, ◌*◌, ◌^◌, ◌<◌, ◌≤◌, List, Option, [], length, map, slice_index, All, IfOk, IfErr, IfSome, OnErr, Err, Some};
+ghost use Rattle.std.specs.Prelude.{◌≡◌, ◌<◌, ◌≤◌, length, map, slice_index, All, IfOk, IfErr, IfSome, Err};
 ghost use Rattle.std.specs.Arc.{arc_value};
 ghost use Rattle.view_outside.specs.Files.{HasFile, file_bytes};
 ghost use Rattle.view_outside.specs.Taken.{taken_after, RisesAtMost};
@@ -65,8 +65,12 @@ fn pin_bodies(tier: &mut Tier, bodies: Vec<Arc<Body>>)
     }
 }
 
-/// The tiers of a mesh whose file stands in the store, of which the first holds the base patches, pinned.
-/// Condition: there are 1 to 4 budgets.
+/// The tiers of a chain over the mesh's file in a store: one for each of these budgets, in bytes, of which the
+/// first holds the base patches, pinned, and the others hold nothing. Each takes up to `width` patches, 1 to 8,
+/// at a time. Condition: there are 1 to 4 budgets.
+///
+/// `Budget` comes exactly where the bodies of the base patches have more bytes than the first budget, and then
+/// nothing was read. With the mesh and the store, the tiers are a chain's parts.
 pub fn open_tiers<S: Store>(
     alloc: Global,
     mesh: &Mesh,

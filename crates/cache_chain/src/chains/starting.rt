@@ -1,14 +1,13 @@
 //! How a chain starts.
 
 ghost use Rattle.std.specs.Prelude.{◌≡◌, ◌<◌, ◌≤◌, length, slice_index, IfOk, IfErr, IfSome, Err};
-ghost use Rattle.std.specs.Borrow.{sem, RestsIfErr};
 ghost use Rattle.view_outside.specs.Files.{HasFile, file_bytes};
 ghost use Rattle.view_outside.specs.Taken.{taken_after};
 ghost use Rattle.mesh_model.specs.Graph.{outgoing};
 ghost use Rattle.tier_model.specs.Tiers.{IsWidth};
 ghost use Rattle.cache_chain.specs.ChainStates.{IsChain};
 ghost use Rattle.cache_chain.specs.Opening.{IsOpened};
-ghost use Rattle.cache_chain.specs.Refusals.{base_size, NamesBudget, NamesChange, NamesBodyFault, LeavesStore};
+ghost use Rattle.cache_chain.specs.Refusals.{base_size, NamesBudget, NamesChange, NamesBodyFault};
 ghost use Rattle.cache_chain.specs.declared.refusals.StartRefusal.TheVariants.{Budget};
 
 use super::TierChain;
@@ -32,8 +31,6 @@ impl<'a, S: Store> TierChain<'a, S> {
         requires some_budget { 1 ≤ length budgets.now }
         requires few { length budgets.now ≤ 4 }
         requires file { HasFile (S.files store.old) file }
-        ensures* store { sem 𝓛 (RestsIfErr S.row store.entry (λ chain. chain.lender) result
-            (λ after. LeavesStore (base_size mesh.now.lists) (S.files store.old) (S.files after) (S.faults store.old) (S.faults after) (S.taken store.old) (S.taken after) result)) }
         ensures opened { IfOk result (λ chain. IsOpened mesh.now.lists.index (file_bytes (S.files store.old) file) budgets.now 1 chain.tiers) }
         ensures facts { IfOk result (λ chain. IsChain chain.mesh.lists.index (S.files chain.store) chain.file chain.tiers) }
         ensures large { slice_index budgets.now 0 < base_size mesh.now.lists → result ≡ Err (Budget (base_size mesh.now.lists) (slice_index budgets.now 0)) }
@@ -52,8 +49,9 @@ impl<'a, S: Store> TierChain<'a, S> {
 
     /// The same, where each tier takes up to `width` patches, 1 to 8, at a time.
     ///
-    /// `Budget` comes exactly where the bodies of the base patches have more bytes than the first budget, and
-    /// then nothing was read.
+    /// `Budget` comes exactly where the bodies of the base patches have more bytes than the first budget. What a
+    /// refusal leaves of the store, and that `ReadFault` has a cause, is said by `open_tiers`, which gives the
+    /// tiers alone.
     pub fn start_wide(
         alloc: Global,
         mesh: &'a Mesh,
@@ -66,8 +64,6 @@ impl<'a, S: Store> TierChain<'a, S> {
         requires few { length budgets.now ≤ 4 }
         requires width { IsWidth width }
         requires file { HasFile (S.files store.old) file }
-        ensures* store { sem 𝓛 (RestsIfErr S.row store.entry (λ chain. chain.lender) result
-            (λ after. LeavesStore (base_size mesh.now.lists) (S.files store.old) (S.files after) (S.faults store.old) (S.faults after) (S.taken store.old) (S.taken after) result)) }
         ensures opened { IfOk result (λ chain. IsOpened mesh.now.lists.index (file_bytes (S.files store.old) file) budgets.now width chain.tiers) }
         ensures facts { IfOk result (λ chain. IsChain chain.mesh.lists.index (S.files chain.store) chain.file chain.tiers) }
         ensures large { slice_index budgets.now 0 < base_size mesh.now.lists → result ≡ Err (Budget (base_size mesh.now.lists) (slice_index budgets.now 0)) }
