@@ -73,13 +73,13 @@ some b = Some b
 some_is : (b x : BodyLists) → some b ≡ some x → b ≡ x
 some_is b x e = cc
 
-fits_at : (bodies : List BodyLists) (patch : ℕ) (b : BodyLists) → list_all (fits_version 2) bodies ≡ true → slice_get bodies patch ≡ Some b → fits_version 2 b ≡ true
-fits_at [] patch b fit here = absurd cc
-fits_at (x ∷ xs) zero b fit here = ap (λ y. fits_version 2 y) (sym (some_is x b here)) ∙ (and_parts (fits_version 2 x) (list_all (fits_version 2) xs) fit).0
-fits_at (x ∷ xs) (suc k) b fit here = fits_at xs k b (and_parts (fits_version 2 x) (list_all (fits_version 2) xs) fit).1 here
+pub fits_at : (version : ℕ) (bodies : List BodyLists) (patch : ℕ) (b : BodyLists) → AllFit version bodies → slice_get bodies patch ≡ Some b → fits_version version b ≡ true
+fits_at version [] patch b fit here = absurd cc
+fits_at version (x ∷ xs) zero b fit here = ap (λ y. fits_version version y) (sym (some_is x b here)) ∙ (and_parts (fits_version version x) (list_all (fits_version version) xs) fit).0
+fits_at version (x ∷ xs) (suc k) b fit here = fits_at version xs k b (and_parts (fits_version version x) (list_all (fits_version version) xs) fit).1 here
 
 pub none_wide : (bodies : List BodyLists) (patch : ℕ) → AllFit 2 bodies → IsLeastWide bodies patch → ⊥
-none_wide bodies patch fit least = let fits = fits_at bodies patch least.wide.0 fit least.wide.1 in let wide = least.wide.2 in absurd cc
+none_wide bodies patch fit least = let fits = fits_at 2 bodies patch least.wide.0 fit least.wide.1 in let wide = least.wide.2 in absurd cc
 
 clash : (b : BodyLists) → fits_version 2 b ≡ true → fits_version 2 b ≡ false → ⊥
 clash b h k = absurd cc
