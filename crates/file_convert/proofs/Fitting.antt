@@ -1,16 +1,21 @@
 -- Which bodies fit a version.
-use Rattle.std.proofs.Common.{◌≡◌, ℕ, suc, ◌+◌, ◌<◌, ◌≤◌, Bool, true, false, eqb, List, [], ◌∷◌, length, map, Option, Some, refl, sym, ap, subst, ◌∙◌, arith, inl, inr}
-use Rattle.std.specs.Prelude.{slice_get, IsTrue}
-use Rattle.std.proofs.lemmas.Bool.{cases_eq, or_cases, eqb-true}
+use Rattle.std.proofs.Common.{◌≡◌, ℕ, suc, ◌+◌, ◌<◌, ◌≤◌, Bool, true, false, ◌&&◌, eqb, List, [], ◌∷◌, length, map, take, Option, Some, refl, sym, ap, subst, ◌∙◌, arith, inl, inr}
+use Rattle.std.specs.Prelude.{slice_get, IfSome, IsTrue}
+use Rattle.std.proofs.lemmas.Bool.{cases_eq, or_cases, eqb-true, and_from, and_parts}
+use Rattle.std.specs.List.{list_all}
+use Rattle.std.proofs.lemmas.List.Folds.{list_all-append}
 use Rattle.std.proofs.lemmas.Option.{slice_get_within}
 use Rattle.grid_vertex.specs.declared.points.Point.{Point}
-use Rattle.file_model.specs.Lists.{BodyLists, corners_of}
+use Rattle.file_model.specs.Lists.{BodyLists, SeenBody, IndexLists, corners_of}
+use Rattle.file_model.specs.Spelling.{file_text}
 use Rattle.file_model.specs.declared.fields.PatchField.{PatchField}
-use Rattle.file_model.specs.Rules.{is_version, is_body, are_bodies}
+use Rattle.file_model.specs.Rules.{is_version, fits_field, is_body, are_bodies, IsIndex, IsPatchFile}
 use Rattle.file_laws.specs.Bodies.{IsBody-from, is_body-from}
-use Rattle.file_laws.specs.Files.{are_bodies-parts}
+use Rattle.file_laws.specs.Files.{are_bodies-from}
 use Rattle.patch_body.specs.Seen.{lists_with}
-use Rattle.convert_laws.specs.Converted.{fits_version, AllFit, IsLeastWide}
+use Rattle.convert_laws.specs.Converted.{with_version, fits_version, AllFit, IsLeastWide}
+use Rattle.file_convert.specs.Held.{lists_of, held_file, HoldsBodies}
+use Rattle.file_convert.proofs.Taken.{take_at}
 use Rattle.convert_laws.specs.ConvertLaws.{all_fit_1, fits_or_wide}
 
 -- the first n bodies fit version 2
@@ -60,9 +65,33 @@ other_rules version was body made same h fits =
 pub lists_are : (body : BodyLists) (ps : List Point) (ts : List (List ℕ)) → ps ≡ body.points → map corners_of ts ≡ body.corners → lists_with ps ts ≡ body
 lists_are body ps ts points corners = λ i. record { points = points i; corners = corners i }
 
-pub as_many : (version : ℕ) (fs : List PatchField) (bs : List BodyLists) → IsTrue (are_bodies version fs bs) → length bs ≡ length fs
+-- bodies that follow the rules, each with the numbers of its field
+pub are_from : (version : ℕ) (fs : List PatchField) (seen : List SeenBody) → length seen ≡ length fs → ((p : ℕ) (f : PatchField) (b : SeenBody) → slice_get fs p ≡ Some f → slice_get seen p ≡ Some b → IsTrue (fits_field f b.lists)) → list_all (is_body version) (lists_of seen) ≡ true → IsTrue (are_bodies version fs (lists_of seen))
 unfolding are_bodies
-as_many version [] [] h = refl
-as_many version [] (b ∷ bs) h = absurd cc
-as_many version (f ∷ fs) [] h = absurd cc
-as_many version (f ∷ fs) (b ∷ bs) h = ap suc (as_many version fs bs (are_bodies-parts version f fs b bs h).others)
+are_from version [] [] many fits rules = refl
+are_from version [] (b ∷ bs) many fits rules = absurd (omega arith)
+are_from version (f ∷ fs) [] many fits rules = absurd (omega arith)
+are_from version (f ∷ fs) (b ∷ bs) many fits rules =
+    let parts = and_parts (is_body version b.lists) (list_all (is_body version) (lists_of bs)) rules in
+    are_bodies-from version f fs b.lists (lists_of bs) (record {
+      fits = fits 0 f b refl refl;
+      body = parts.0;
+      others = are_from version fs bs (omega arith) (λ p g c here there. fits (suc p) g c here there) parts.1;
+    })
+
+pub held_are : (version : ℕ) (index : IndexLists) (seen : List SeenBody) → HoldsBodies index seen → list_all (is_body version) (lists_of seen) ≡ true → IsTrue (are_bodies version index.fields (lists_of seen))
+held_are version index seen holds rules =
+    are_from version index.fields seen holds.as_many (λ p f b here there. subst (λ (o : Option PatchField). IfSome o (λ (field : PatchField). IsTrue (fits_field field b.lists))) here (holds.each p b there).fits) rules
+
+pub converted_is_file : (version : ℕ) (index : IndexLists) (seen : List SeenBody) → is_version version ≡ true → IsIndex index → HoldsBodies index seen → list_all (is_body version) (lists_of seen) ≡ true → IsPatchFile (with_version version (held_file index seen)) (file_text (with_version version (held_file index seen)))
+converted_is_file version index seen known rules holds all = record {
+  index = record { version = known; node_count = rules.node_count; patch_count = rules.patch_count; nodes = rules.nodes; fields = rules.fields };
+  bodies = held_are version index seen holds all;
+  text = refl;
+}
+
+-- one more body that follows the rules
+pub rules_more : (version : ℕ) (bs : List BodyLists) (k : ℕ) (b : BodyLists) → slice_get bs k ≡ Some b → is_body version b ≡ true → list_all (is_body version) (take k bs) ≡ true → list_all (is_body version) (take (k + 1) bs) ≡ true
+rules_more version bs k b here rules all =
+    ap (λ xs. list_all (is_body version) xs) (take_at bs k b here) ∙ list_all-append (is_body version) (take k bs) (b ∷ [])
+    ∙ and_from (list_all (is_body version) (take k bs)) (is_body version b && true) all (and_from (is_body version b) true rules refl)

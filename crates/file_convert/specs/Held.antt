@@ -1,8 +1,9 @@
 -- A file whose bodies are held, and why it can't have another version.
-use Rattle.std.specs.Prelude.{◌≡◌, ℕ, List, ◌++◌, map}
+use Rattle.std.specs.Prelude.{◌≡◌, ℕ, List, ◌++◌, length, map, slice_get, Some}
 use Rattle.file_model.specs.declared.fields.Node.{Node}
 use Rattle.file_model.specs.declared.fields.PatchField.{PatchField}
 use Rattle.file_model.specs.Lists.{BodyLists, SeenBody, IndexLists, FileLists}
+use Rattle.patch_file.specs.BodyRead.{IsBodyOf}
 use Rattle.convert_laws.specs.Converted.{IsLeastWide}
 use Rattle.file_convert.specs.declared.refusals.ConvertRefusal.{ConvertRefusal}
 use Rattle.file_convert.specs.declared.refusals.ConvertRefusal.TheVariants.{Wide, Memory}
@@ -13,6 +14,11 @@ lists_of bodies = map (λ (body : SeenBody). body.lists) bodies
 -- what the index and the bodies say together
 abbrev pub held_file : IndexLists → List SeenBody → FileLists
 held_file index bodies = record { index = index; bodies = lists_of bodies }
+
+-- there is a body of each patch, in order
+pub record HoldsBodies (index : IndexLists) (bodies : List SeenBody) : Type 0 where
+  pub as_many : length bodies ≡ length index.fields
+  pub each : (p : ℕ) (b : SeenBody) → slice_get bodies p ≡ Some b → IsBodyOf index p b
 
 -- parts with more nodes, and with more patches
 abbrev pub with_all_nodes : FileLists → List Node → FileLists

@@ -48,6 +48,7 @@ fn body_in(
     requires rules { IsTrue (is_body version (lists_with points.now corners.now)) }
     ensures version { IfOk result (λ body. body.version ≡ version) }
     ensures lists { IfOk result (λ body. body.lists ≡ lists_with points.now corners.now) }
+    ensures rules { IfOk result (λ body. IsTrue (is_body version body.lists)) }
 {
     if version == 2 {
         Body::from_lists_2(alloc, patch, points, corners)
@@ -62,6 +63,7 @@ pub(crate) fn converted(alloc: Global, body: &Body, version: u16) -> Result<Body
     requires fits { IsTrue (fits_version version body.now.lists) }
     ensures version { IfOk result (λ made. made.version ≡ version) }
     ensures lists { IfOk result (λ made. made.lists ≡ body.now.lists) }
+    ensures rules { IfOk result (λ made. IsTrue (is_body version made.lists)) }
 {
     let patch = body.patch();
     let points = points_of(alloc, body)?;

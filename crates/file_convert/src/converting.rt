@@ -2,10 +2,11 @@
 
 ghost use Rattle.std.specs.Prelude.{◌≡◌, length, map, OnOk, IfOk, IfErr, IsTrue};
 ghost use Rattle.std.specs.Arc.{arc_value};
+ghost use Rattle.std.specs.List.{list_all};
 ghost use Rattle.file_model.specs.Spelling.{file_text};
-ghost use Rattle.file_model.specs.Rules.{is_version, IsPatchFile};
+ghost use Rattle.file_model.specs.Rules.{is_version, is_body, IsPatchFile};
 ghost use Rattle.convert_laws.specs.Converted.{with_version, AllFit};
-ghost use Rattle.file_convert.specs.Held.{lists_of, held_file, with_all_nodes, with_all_patches, RefusesWide};
+ghost use Rattle.file_convert.specs.Held.{lists_of, held_file, HoldsBodies, with_all_nodes, with_all_patches, RefusesWide};
 
 use crate::bodies::converted;
 use crate::refusals::ConvertRefusal;
@@ -38,9 +39,11 @@ fn add_patches(
     requires same { parts.old.index.version ≡ version }
     requires as_many { length bodies.now ≡ length fields.now }
     requires fit { AllFit version (lists_of (map arc_value bodies.now)) }
-    ensures { OnOk result
+    ensures parts { OnOk result
         (parts.new
         ≡ with_all_patches parts.old fields.now (lists_of (map arc_value bodies.now))) }
+    ensures rules { OnOk result
+        (IsTrue (list_all (is_body version) (lists_of (map arc_value bodies.now)))) }
 {
     for (patch, field) in fields.iter().enumerate() {
         let body = converted(alloc, &bodies[patch], version)?;
@@ -59,13 +62,13 @@ pub fn convert_parts(
     version: u16,
 ) -> Result<FileParts, ConvertRefusal>
     requires version { IsTrue (is_version version) }
-    requires file { IsPatchFile (held_file index.now (map arc_value bodies.now))
-        (file_text (held_file index.now (map arc_value bodies.now))) }
+    requires bodies { HoldsBodies index.now (map arc_value bodies.now) }
     ensures lists { IfOk result
         (λ parts. parts ≡ with_version version (held_file index.now (map arc_value bodies.now))) }
     ensures file { IfOk result (λ parts. IsPatchFile parts (file_text parts)) }
     ensures wide { IfErr result (RefusesWide version (lists_of (map arc_value bodies.now))) }
 {
+    let _rules = index.version();
     check_spans(alloc, bodies, version)?;
     let mut parts = FileParts::with_version(alloc, version);
     add_nodes(&mut parts, index.nodes())?;

@@ -99,10 +99,13 @@ pub fn run_still<S: Store, I: Source, O: Sink>(
         (O.written sink.new)) }
     // A change is told with a fault that the patch's body can have.
     ensures changed { IsChange result }
-    // A strip is written whole, but for a sink that fails and for want of memory. The store isn't asked.
+    // A strip is written whole, but for a sink that fails and for want of memory,
     ensures makes { IfSome (columns_in (map string_bytes words.now))
         (λ columns. Ends (IsStripText columns) IsForMemory result (O.written sink.old)
         (O.written sink.new)) }
+    // and the store isn't asked for it.
+    ensures alone { IfSome (columns_in (map string_bytes words.now)) (λ _.
+        (S.files store.new ≡ S.files store.old) × (S.faults store.new ≡ S.faults store.old)) }
     // The script is left as it was.
     ensures script { (I.rest _script.new ≡ I.rest _script.old)
         × (I.faults _script.new ≡ I.faults _script.old) }

@@ -22,6 +22,7 @@ mod failures;
 mod files;
 mod graphs;
 mod large;
+mod making;
 mod statuses;
 mod usage;
 mod views;
