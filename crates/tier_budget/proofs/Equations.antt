@@ -1,5 +1,5 @@
 -- What the code writes is the change.
-use Rattle.std.proofs.Common.{◌≡◌, ℕ, true, Bool, false, List, [], ◌∷◌, ◌++◌, length, replicate, map, Option, Some, None, refl}
+use Rattle.std.proofs.Common.{◌≡◌, ℕ, true, Bool, false, List, [], ◌∷◌, ◌++◌, length, replicate, map, Option, Some, None}
 use Rattle.std.specs.Prelude.{slice_index_or, slice_set}
 use Rattle.std.specs.List.{range_with_len}
 use Rattle.file_model.specs.Lists.{IndexLists, SeenBody}
@@ -31,17 +31,17 @@ pub dropped_is : (s : TierState) (p : ℕ) (held : List (Option SeenBody)) (jour
 unfolding dropped
 dropped_is s p held journal a b = rw (a, b)
 
-pub passed_over_is : (s : TierState) (p : ℕ) → record s { passed = slice_set s.passed p true } ≡ passed_over s p
+pub passed_over_is : (s : TierState) (p : ℕ) (passed : List Bool) → passed ≡ slice_set s.passed p true → record s { passed = passed } ≡ passed_over s p
 unfolding passed_over
-passed_over_is s p = refl
+passed_over_is s p passed a = rw a
 
 pub calmed_is : (s : TierState) (passed : _) → passed ≡ none_marked s → record s { passed = passed } ≡ calmed s
 unfolding calmed
 calmed_is s passed a = rw a
 
-pub renewed_is : (s : TierState) (version : ℕ) (passed aside : _) → passed ≡ none_marked s → aside ≡ none_marked s → record s { version = version; passed = passed; aside = aside } ≡ renewed s version
-unfolding renewed
-renewed_is s version passed aside a b = rw (a, b)
+pub renewed_is : (s calm : TierState) (version : ℕ) (aside : List Bool) → calm ≡ calmed s → aside ≡ none_marked calm → record calm { version = version; aside = aside } ≡ renewed s version
+unfolding calmed renewed
+renewed_is s calm version aside a b = rw (b, a)
 
 pub ranked_is : (s : TierState) (wish : ℕ → ℕ) (wishes : List ℕ) → wishes ≡ map wish (range_with_len 0 (count s)) → record s { wishes = wishes } ≡ ranked s wish
 unfolding ranked

@@ -9,11 +9,11 @@ use Rattle.tier_model.specs.declared.turns.Abort.{Abort}
 use Rattle.tier_model.specs.declared.turns.Turn.TheVariants.{Reserve, Evict, Got, Lost, Commit}
 use Rattle.tier_model.specs.Places.{after, load_of, first_bare, without}
 use Rattle.tier_model.specs.Tiers.{TierState, count, size, places, load, IsWidth, IsBodyFor, IsTier, sizes_of}
-use Rattle.tier_model.specs.Changes.{fresh, reserved, arrived, aborted, committed, dropped, with_pin}
+use Rattle.tier_model.specs.Changes.{fresh, reserved, arrived, aborted, committed, dropped, passed_over, calmed, renewed, ranked, with_pin}
 use Rattle.tier_model.specs.ComingLaws.{first_comes, bare_comes, all_are_full}
 use Rattle.tier_model.specs.LoadLaws.{load-reserve, load-got, load-lost, load-commit, load-evict, marked_more, marked_none}
 use Rattle.tier_model.specs.BodyLaws.{marks_of, away_is_unmarked}
-use Rattle.tier_model.specs.TierLaws.{IsTier-reserved, IsTier-arrived, IsTier-aborted, IsTier-committed, IsTier-dropped, comes_within}
+use Rattle.tier_model.specs.TierLaws.{IsTier-reserved, IsTier-arrived, IsTier-aborted, IsTier-committed, IsTier-dropped, IsTier-passed_over, IsTier-calmed, IsTier-renewed, IsTier-ranked, comes_within}
 use Rattle.tier_budget.specs.TierView.{TierSeen, Allows, IsSoundTier}
 use Rattle.tier_budget.proofs.SumLaws.{count_more, count_fewer, marked_within}
 use Rattle.tier_budget.proofs.StartLaws.{IsTier-fresh, fresh_load, IsTier-with_pin, pinned_load, stands, load_is_pinned, marks_of_bodies}
@@ -169,3 +169,21 @@ sound-with_pin s body b n h k sound begins away right room =
       room = sound.room;
       few = sound.few;
     }
+
+-- ---- without an entry
+
+pub sound-passed_over : (s : TierState) (p b n h k : ℕ) → IsSoundTier s b n h k → IsSoundTier (passed_over s p) b n h k
+unfolding passed_over
+sound-passed_over s p b n h k sound = record { tier = IsTier-passed_over s p sound.tier; bytes_are = sound.bytes_are; pinned_are = sound.pinned_are; held_are = sound.held_are; room = sound.room; few = sound.few }
+
+pub sound-calmed : (s : TierState) (b n h k : ℕ) → IsSoundTier s b n h k → IsSoundTier (calmed s) b n h k
+unfolding calmed
+sound-calmed s b n h k sound = record { tier = IsTier-calmed s sound.tier; bytes_are = sound.bytes_are; pinned_are = sound.pinned_are; held_are = sound.held_are; room = sound.room; few = sound.few }
+
+pub sound-renewed : (s : TierState) (version b n h k : ℕ) → IsSoundTier (calmed s) b n h k → IsSoundTier (renewed s version) b n h k
+unfolding calmed renewed
+sound-renewed s version b n h k sound = record { tier = IsTier-renewed (calmed s) version sound.tier; bytes_are = sound.bytes_are; pinned_are = sound.pinned_are; held_are = sound.held_are; room = sound.room; few = sound.few }
+
+pub sound-ranked : (s : TierState) (wish : ℕ → ℕ) (b n h k : ℕ) → IsSoundTier s b n h k → IsSoundTier (ranked s wish) b n h k
+unfolding ranked
+sound-ranked s wish b n h k sound = record { tier = IsTier-ranked s wish sound.tier; bytes_are = sound.bytes_are; pinned_are = sound.pinned_are; held_are = sound.held_are; room = sound.room; few = sound.few }

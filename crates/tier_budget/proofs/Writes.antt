@@ -1,19 +1,14 @@
 -- What a vector has after its items were written through a slice.
-use Rattle.std.proofs.Common.{◌≡◌, ℕ, Bool, false, List, length, replicate, Vec, vec_len, Option, Some, None, ◌<◌, subst, sym, ap, ◌∙◌}
+use Rattle.std.proofs.Common.{◌≡◌, ℕ, List, length, Vec, vec_len, Option, Some, None, ◌<◌, subst, sym, ap, ◌∙◌}
 use Rattle.std.specs.Prelude.{slice_index_or, slice_set, option_map, IfSome}
 use Rattle.std.specs.Arc.{arc_value}
 use Rattle.std.specs.declared.sync.Arc.{Arc}
 use Rattle.std.specs.Vec.{with_items}
-use Rattle.std.proofs.lemmas.List.{length-replicate, with_items_is, map-set, get_or-map, get_or_default, length-map}
+use Rattle.std.proofs.lemmas.List.{with_items_is, map-set, get_or-map, get_or_default, length-map}
 use Rattle.tier_budget.specs.Heads.{bodies_in}
 
 pub written : {X Z : Type 0} (v : Vec X Z) (slice items : List X) → slice ≡ v.items → length items ≡ length slice → (with_items v items).items ≡ items
 written v slice items is same_length = with_items_is v items (same_length ∙ ap length is ∙ sym v.ok.0)
-
-pub cleared : {Z : Type 0} (v : Vec Bool Z) (slice items : List Bool) (n : ℕ) → slice ≡ v.items → items ≡ replicate (length slice) false → length v.items ≡ n → (with_items v items).items ≡ replicate n false
-cleared v slice items n is none many =
-    written v slice items is (ap length none ∙ length-replicate (length slice) false)
-    ∙ none ∙ ap (λ k. replicate k false) (ap length is ∙ many)
 
 pub body_written : {X Z : Type 0} (bodies : List (Option (Arc X Z))) (p : ℕ) (o : Option (Arc X Z)) → bodies_in (slice_set bodies p o) ≡ slice_set (bodies_in bodies) p (option_map arc_value o)
 body_written bodies p o = map-set (option_map arc_value) bodies p o
@@ -32,3 +27,7 @@ has_place v n p many within = subst (λ (k : ℕ). p < k) (sym (v.ok.0 ∙ sym (
 
 pub has_item : {X Z : Type 0} (bodies : List (Option (Arc X Z))) (n p : ℕ) → length (bodies_in bodies) ≡ n → p < n → p < length bodies
 has_item bodies n p many within = subst (λ (k : ℕ). p < k) (sym (sym (length-map bodies (option_map arc_value)) ∙ many)) within
+
+-- the bodies behind a slice are as many as there are patches
+pub as_many : {X Z : Type 0} (bodies slice : List (Option (Arc X Z))) (n : ℕ) → slice ≡ bodies → length (bodies_in bodies) ≡ n → length slice ≡ n
+as_many bodies slice n is many = ap length is ∙ sym (length-map bodies (option_map arc_value)) ∙ many

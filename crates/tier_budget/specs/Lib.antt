@@ -1,2 +1,5 @@
 pub mod Heads
+pub mod Marked
+pub mod MarksView
+pub mod Heaps
 pub mod TierView

@@ -5,6 +5,7 @@ use Rattle.tier_model.specs.declared.turns.Turn.{Turn}
 use Rattle.tier_model.specs.Places.{Needs}
 use Rattle.tier_model.specs.Tiers.{TierState, count, places, load, pinned_bytes, IsTier}
 use Rattle.tier_budget.specs.Heads.{bodies_in}
+use Rattle.tier_budget.specs.Heaps.{IsLeaving, IsMissing}
 use Rattle.tier_budget.specs.declared.tiers.Tier.TheInside.{Inside}
 
 -- a tier, and for how many more entries its journal has room
@@ -29,8 +30,8 @@ state_of t = record {
   wishes = t.wishes.items;
   base = t.base.items;
   pinned = t.pinned.items;
-  passed = t.passed.items;
-  aside = t.aside.items;
+  passed = t.passed;
+  aside = t.aside;
   held = bodies_in t.held.items;
   came = bodies_in t.came.items;
   coming = t.coming.items;
@@ -49,5 +50,8 @@ pub record IsSoundTier (s : TierState) (bytes pinned held capacity : ℕ) : Type
   pub room : 0 < count s → s.width ≤ capacity
   pub few : count s ≤ 65536
 
-abbrev pub IsTierInside : Inside → Type 0
-IsTierInside t = IsSoundTier (state_of t) t.load t.pinned_bytes t.held_count (vec_capacity t.coming)
+-- a sound tier, with the heaps of the patches that may leave and of those that are missing
+pub record IsTierInside (t : Inside) : Type 0 where
+  pub sound : IsSoundTier (state_of t) t.load t.pinned_bytes t.held_count (vec_capacity t.coming)
+  pub leaving : IsLeaving (state_of t) t.leaving
+  pub missing : IsMissing (state_of t) t.missing

@@ -3,6 +3,7 @@
 ghost use Rattle.std.specs.Prelude.{◌≡◌, ◌<◌, length};
 ghost use Rattle.tier_model.specs.Changes.{abort_entry, aside_after};
 
+use crate::marks::Marks;
 use tier_model::{Abort, Turn};
 
 /// The entry of the journal for a patch that doesn't come.
@@ -19,13 +20,14 @@ pub fn entry_of(patch: u32, why: Abort) -> Turn
 
 /// Puts the patch aside, unless the tier below just doesn't hold it.
 #[tactic(auto, unfolding(tier_model::specs::Changes::aside_after))]
-pub fn put_aside(aside: &mut [bool], patch: u32, why: Abort)
+pub fn put_aside(aside: &mut Marks, patch: u32, why: Abort)
     requires { patch < length aside.old }
-    ensures { aside.new ≡ aside_after aside.old patch why }
+    ensures after { aside.new ≡ aside_after aside.old patch why }
+    ensures many { length aside.new ≡ length aside.old }
 {
     match why {
         Abort::Lost => {}
-        Abort::Fault => aside[patch as usize] = true,
-        Abort::Changed(_) => aside[patch as usize] = true,
+        Abort::Fault => aside.mark(patch),
+        Abort::Changed(_) => aside.mark(patch),
     }
 }

@@ -3,12 +3,17 @@
 //! A tier's journal says what it did. The bytes of the patches that are held or come never pass the
 //! budget, and all memory is taken where a tier is made and where a place in its journal is. What a tier
 //! is, and each of its changes, stands in `tier_model`; `docs/MODEL.md` tells it in prose.
+//!
+//! Only `rank` walks over all patches. Those that are missing and those that may leave stand in two
+//! heaps by their wishes, and those that were passed over or put aside are listed.
 #![tactic(auto)]
 
 mod aside;
 mod coming;
+mod leaving;
 mod lists;
 mod marks;
+mod missing;
 mod tiers;
 mod wishes;
 

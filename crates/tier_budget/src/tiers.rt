@@ -1,13 +1,14 @@
 //! Tiers: how they are made, and what is read of them.
 
 use crate::lists::{base_patches, body_sizes, no_bodies};
-use crate::marks::has_mark;
+use crate::marks::{Marks, has_mark};
 use grid_vertex::NoMemory;
 use patch_file::{Body, Index};
 use std::alloc::Global;
 use std::default::MadeWith;
 use std::marker::Model;
 use std::sync::Arc;
+use tier_heap::PairHeap;
 use tier_model::{Coming, Turn};
 
 /// A tier of the cache. The bytes of the patches that it holds and of those that come are at most its
@@ -24,12 +25,14 @@ pub struct Tier {
     wishes: Vec<u64>,
     base: Vec<bool>,
     pinned: Vec<bool>,
-    passed: Vec<bool>,
-    aside: Vec<bool>,
+    passed: Marks,
+    aside: Marks,
     held: Vec<Option<Arc<Body>>>,
     came: Vec<Option<Arc<Body>>>,
     coming: Vec<Coming>,
     journal: Vec<Turn>,
+    leaving: PairHeap,
+    missing: PairHeap,
 }
 
 impl Model for Tier {
@@ -83,12 +86,14 @@ impl Tier {
             wishes: vec![in alloc; 0; unmarked]?,
             base: base_patches(alloc, index)?,
             pinned: vec![in alloc; false; unmarked]?,
-            passed: vec![in alloc; false; unmarked]?,
-            aside: vec![in alloc; false; unmarked]?,
+            passed: Marks::with_patches(alloc, patches)?,
+            aside: Marks::with_patches(alloc, patches)?,
             held: no_bodies(alloc, patches)?,
             came: no_bodies(alloc, patches)?,
             coming: Vec::with_capacity(alloc, width as usize)?,
             journal: Vec::new(alloc),
+            leaving: PairHeap::with_ids(alloc, patches)?,
+            missing: PairHeap::with_ids(alloc, patches)?,
         })
     }
 
@@ -163,7 +168,7 @@ impl Tier {
         requires { patch < count self.now.state }
         ensures { result ≡ is_marked self.now.state.passed patch }
     {
-        has_mark(&self.passed, patch)
+        self.passed.has(patch)
     }
 
     /// Whether the patch was put aside, since it couldn't be read.
@@ -171,7 +176,7 @@ impl Tier {
         requires { patch < count self.now.state }
         ensures { result ≡ is_marked self.now.state.aside patch }
     {
-        has_mark(&self.aside, patch)
+        self.aside.has(patch)
     }
 
     /// Whether the patch leads from a root.
@@ -211,12 +216,14 @@ impl MadeWith<Global> for Tier {
             wishes: Vec::new(alloc),
             base: Vec::new(alloc),
             pinned: Vec::new(alloc),
-            passed: Vec::new(alloc),
-            aside: Vec::new(alloc),
+            passed: Marks::new(alloc),
+            aside: Marks::new(alloc),
             held: Vec::new(alloc),
             came: Vec::new(alloc),
             coming: Vec::new(alloc),
             journal: Vec::new(alloc),
+            leaving: PairHeap::new(alloc),
+            missing: PairHeap::new(alloc),
         }
     }
 }

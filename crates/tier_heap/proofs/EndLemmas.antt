@@ -30,10 +30,10 @@ first_ranked ranks heap id is_heap some id_is =
     let zero_in : 0 < length heap.order.items = omega (arith, some, lists.index.counted) in
     rank_from_some _ (rw id_is (lists.ranked (id_at heap 0) (rw (← lists.all_ids) (lists.index.ids 0 zero_in)) (rw (lists.index.place_at 0 zero_in) some)))
 
-entry_is : (ranks : List (Option ℕ)) (id rank : ℕ) → rank_at ranks id ≡ Some rank → entry_of ranks id ≡ (id, rank)
+pub entry_is : (ranks : List (Option ℕ)) (id rank : ℕ) → rank_at ranks id ≡ Some rank → entry_of ranks id ≡ (id, rank)
 entry_is ranks id rank e = let entry : Option ℕ → ℕ × ℕ = λ o. (id, unwrap_or o 0) in ap entry e
 
-above_along : (a a' b b' : ℕ × ℕ) → a ≡ a' → b ≡ b' → is_above a b ≡ false → is_above a' b' ≡ false
+pub above_along : (a a' b b' : ℕ × ℕ) → a ≡ a' → b ≡ b' → is_above a b ≡ false → is_above a' b' ≡ false
 above_along a a' b b' ea eb h = subst (λ (e : ℕ × ℕ). is_above a' e ≡ false) eb (subst (λ (e : ℕ × ℕ). is_above e b ≡ false) ea h)
 
 -- the first id of the heap from the greatest end is the greatest

@@ -4,3 +4,4 @@ mod SiftLemmas
 mod ChangeLemmas
 mod EndLemmas
 mod EmptyLemmas
+mod SearchLemmas

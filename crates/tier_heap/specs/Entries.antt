@@ -1,5 +1,5 @@
 -- A finite map from ids to ranks, seen as the list of each id's rank, and its two ends.
-use Rattle.std.specs.Prelude.{◌≡◌, ◌≢◌, ℕ, Bool, ◌&&◌, ◌||◌, nat_lt, ◌==◌, List, Some, None, Option, slice_index_or, IsTrue}
+use Rattle.std.specs.Prelude.{◌≡◌, ◌≢◌, ℕ, ◌⊎◌, Bool, true, false, ◌&&◌, ◌||◌, nat_lt, ◌==◌, List, Some, None, Option, slice_index_or, IsTrue}
 
 -- the rank of an id, None where the id isn't in the map
 abbrev pub rank_at : List (Option ℕ) → ℕ → Option ℕ
@@ -24,3 +24,14 @@ pub record IsLeast (ranks : List (Option ℕ)) (id : ℕ) : Type 0 where
   pub rank : ℕ
   pub entry : rank_at ranks id ≡ Some rank
   pub below : (other other_rank : ℕ) → rank_at ranks other ≡ Some other_rank → other ≢ id → IsTrue (is_above (other, other_rank) (id, rank))
+
+-- every id of the map was answered not to fit
+abbrev pub NoneFits : List (Option ℕ) → (ℕ → Bool → Type 0) → Type 0
+NoneFits ranks answers = (id rank : ℕ) → rank_at ranks id ≡ Some rank → answers id false
+
+-- the id is in the map and was answered to fit, and its entry is above every other that wasn't answered not to fit
+pub record IsGreatestBy (ranks : List (Option ℕ)) (answers : ℕ → Bool → Type 0) (id : ℕ) : Type 0 where
+  pub rank : ℕ
+  pub entry : rank_at ranks id ≡ Some rank
+  pub fits : answers id true
+  pub above : (other other_rank : ℕ) → rank_at ranks other ≡ Some other_rank → other ≢ id → answers other false ⊎ IsTrue (is_above (id, rank) (other, other_rank))

@@ -1,4 +1,5 @@
 pub mod Entries
 pub mod EndHeap
+pub mod Searches
 pub mod PairHeap
 pub mod Laws

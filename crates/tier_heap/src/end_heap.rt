@@ -1,6 +1,6 @@
 //! A binary heap of the ids of a map, with the place of each.
 
-ghost use Rattle.std.specs.Prelude.{◌≡◌, ℕ, ◌<◌, ◌↔◌, length, slice_set, replicate, IsSome, IsNone, IfOk, IfSome, IfNone};
+ghost use Rattle.std.specs.Prelude.{◌≡◌, ℕ, ◌<◌, ◌↔◌, [], length, slice_set, replicate, IsSome, IsNone, IfOk, IfSome, IfNone};
 ghost use Rattle.std.specs.List.{range_with_len};
 ghost use Rattle.tier_heap.specs.Entries.{rank_at, is_above};
 ghost use Rattle.tier_heap.specs.EndHeap.{entry_of, is_ahead, id_at, place_of, IsIndex, Lists, IsParent, IsBehind, IsLoose, IsLooseBelow, IsFirstChild, Leads, Exchanges, IsEndHeap};
@@ -52,6 +52,19 @@ fn all_ids(alloc: Global, ids: u32) -> Result<Vec<u32>, NoMemory>
 }
 
 impl EndHeap {
+    /// The heap of an empty map, with room for no ids.
+    pub fn new(alloc: Global, end: End) -> EndHeap
+        ensures heap { IsEndHeap [] result }
+        ensures end { result.end ≡ end }
+    {
+        EndHeap {
+            end,
+            order: Vec::new(alloc),
+            places: Vec::new(alloc),
+            count: 0,
+        }
+    }
+
     /// The heap of an empty map, with room for the ids below a bound.
     pub fn with_ids(alloc: Global, end: End, ids: u32) -> Result<EndHeap, NoMemory>
         ensures heap { IfOk result (λ heap. IsEndHeap (replicate ids None) heap) }
@@ -240,3 +253,5 @@ impl EndHeap {
         }
     }
 }
+
+mod searches;

@@ -1,7 +1,7 @@
 //! A finite map from ids to ranks with both its ends.
 
-ghost use Rattle.std.specs.Prelude.{◌≡◌, ◌<◌, ◌↔◌, length, slice_set, replicate, IsSome, IsNone, IfOk, IfSome};
-ghost use Rattle.tier_heap.specs.Entries.{rank_at, IsEmpty, IsGreatest, IsLeast};
+ghost use Rattle.std.specs.Prelude.{◌≡◌, ℕ, ◌<◌, ◌↔◌, [], length, slice_set, replicate, IsSome, IsNone, IfOk, IfSome, IfNone};
+ghost use Rattle.tier_heap.specs.Entries.{rank_at, IsEmpty, IsGreatest, IsLeast, NoneFits, IsGreatestBy};
 
 use crate::end_heap::{End, EndHeap};
 use grid_vertex::NoMemory;
@@ -32,6 +32,17 @@ impl Model for PairHeap {
 }
 
 impl PairHeap {
+    /// An empty map with room for no ids.
+    pub fn new(alloc: Global) -> PairHeap
+        ensures { result ≡ [] }
+    {
+        PairHeap {
+            ranks: Vec::new(alloc),
+            greatest: EndHeap::new(alloc, End::Greatest),
+            least: EndHeap::new(alloc, End::Least),
+        }
+    }
+
     /// An empty map with room for the ids below a bound. No other call takes memory.
     pub fn with_ids(alloc: Global, ids: u32) -> Result<PairHeap, NoMemory>
         ensures { IfOk result (λ heap. heap ≡ replicate ids None) }
@@ -86,12 +97,38 @@ impl PairHeap {
         Some(rank)
     }
 
+    /// Gives an id this rank, or takes it out of the map where there is none.
+    pub fn set(&mut self, id: u32, rank: Option<u64>)
+        requires { id < length self.old }
+        ensures { self.new ≡ slice_set self.old id rank }
+    {
+        let is_in = self.rank_of(id).is_some();
+        match rank {
+            Some(rank) if is_in => self.change(id, rank),
+            Some(rank) => self.insert(id, rank),
+            None => {
+                let _ = self.remove(id);
+            }
+        }
+    }
+
     /// The id whose entry is above all others, None where the map is empty.
     pub fn greatest(&self) -> Option<u32>
         ensures none { IsNone result ↔ IsEmpty self.now }
         ensures greatest { IfSome result (IsGreatest self.now) }
     {
         self.greatest.first()
+    }
+
+    /// The id that fits whose entry is above all others that fit, None where none fits. No id is asked
+    /// that is below one that fits.
+    pub fn greatest_where<F: Fn(u32) -> bool>(&self, fits: F) -> Option<u32>
+        requires { (id : ℕ) → IsSome (rank_at self.now id) → F.pre fits id }
+        ensures none { IfNone result (NoneFits self.now (λ id answer. F.post fits id answer)) }
+        ensures greatest { IfSome result
+            (IsGreatestBy self.now (λ id answer. F.post fits id answer)) }
+    {
+        self.greatest.first_where(&self.ranks, fits)
     }
 
     /// The id whose entry is below all others, None where the map is empty.

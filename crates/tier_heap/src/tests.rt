@@ -193,3 +193,20 @@ fn gives_many_ids_in_their_order(rt: HostRuntime) -> Result<(), Fail> {
     assert_eq!(rt; heap.least(), None);
     Ok(())
 }
+
+#[test]
+fn finds_the_greatest_that_fits(rt: HostRuntime) -> Result<(), Fail> {
+    let mut heap = PairHeap::with_ids(rt.alloc(), 5)?;
+    assert_eq!(rt; heap.greatest_where(|_| true), None);
+    heap.set(0, Some(7));
+    heap.set(1, Some(3));
+    heap.set(2, Some(9));
+    heap.set(3, Some(7));
+    assert_eq!(rt; heap.greatest_where(|_| true), Some(2));
+    assert_eq!(rt; heap.greatest_where(|id| id != 2), Some(0));
+    assert_eq!(rt; heap.greatest_where(|id| id % 2 == 1), Some(3));
+    heap.set(3, None);
+    assert_eq!(rt; heap.greatest_where(|id| id % 2 == 1), Some(1));
+    assert_eq!(rt; heap.greatest_where(|id| id > 2), None);
+    Ok(())
+}

@@ -11,7 +11,8 @@ ghost use Rattle.tier_budget.specs.TierView.{Allows};
 use super::Tier;
 use crate::aside::{entry_of, put_aside};
 use crate::coming::{first_patch, first_without_body, give_body, take_out};
-use crate::marks::unmark_all;
+use crate::leaving::{put_back, rank_leaving, rank_to_leave};
+use crate::missing::{rank_missing, rank_of_missing, seek_again};
 use crate::wishes::{Wishes, copy_wishes};
 use patch_file::Body;
 use std::sync::Arc;
@@ -29,10 +30,11 @@ impl Tier {
         ensures kept { IsTier self.new.state }
         ensures spare { self.new.spare ≡ self.old.spare }
     {
-        let patch = body.patch() as usize;
+        let patch = body.patch();
         let size = body.size();
-        self.held[patch] = Some(body);
-        self.pinned[patch] = true;
+        self.held[patch as usize] = Some(body);
+        self.pinned[patch as usize] = true;
+        self.missing.set(patch, None);
         self.held_count += 1;
         self.load += size;
         self.pinned_bytes += size;
@@ -53,6 +55,7 @@ impl Tier {
             patch,
             has_body: false,
         });
+        self.missing.set(patch, None);
         self.journal.push_reserved(Turn::Reserve(patch));
     }
 
@@ -91,6 +94,9 @@ impl Tier {
         self.held[patch as usize] = body;
         self.held_count += 1;
         take_out(&mut self.coming, patch);
+        let is_passed = self.passed.has(patch);
+        let rank = rank_to_leave(&self.held, &self.pinned, is_passed, &self.wishes, patch);
+        self.leaving.set(patch, rank);
         self.journal.push_reserved(Turn::Commit(patch));
     }
 
@@ -111,6 +117,16 @@ impl Tier {
         self.load -= self.sizes[patch as usize];
         take_out(&mut self.coming, patch);
         put_aside(&mut self.aside, patch, why);
+        let is_aside = self.aside.has(patch);
+        let rank = rank_of_missing(
+            &self.wishes,
+            &self.base,
+            &self.held,
+            &self.coming,
+            is_aside,
+            patch,
+        );
+        self.missing.set(patch, rank);
         self.journal.push_reserved(entry_of(patch, why));
     }
 
@@ -126,6 +142,17 @@ impl Tier {
         self.held[patch as usize] = None;
         self.held_count -= 1;
         self.load -= self.sizes[patch as usize];
+        self.leaving.set(patch, None);
+        let is_aside = self.aside.has(patch);
+        let rank = rank_of_missing(
+            &self.wishes,
+            &self.base,
+            &self.held,
+            &self.coming,
+            is_aside,
+            patch,
+        );
+        self.missing.set(patch, rank);
         self.journal.push_reserved(Turn::Evict(patch));
     }
 
@@ -136,7 +163,8 @@ impl Tier {
         ensures kept { IsTier self.new.state }
         ensures spare { self.new.spare ≡ self.old.spare }
     {
-        self.passed[patch as usize] = true;
+        self.passed.mark(patch);
+        self.leaving.set(patch, None);
     }
 
     /// No patch was passed over.
@@ -145,7 +173,14 @@ impl Tier {
         ensures kept { IsTier self.new.state }
         ensures spare { self.new.spare ≡ self.old.spare }
     {
-        unmark_all(&mut self.passed);
+        put_back(
+            &mut self.leaving,
+            self.passed.listed(),
+            &self.held,
+            &self.pinned,
+            &self.wishes,
+        );
+        self.passed.clear();
     }
 
     /// No patch was passed over or put aside since this version of the wishes.
@@ -154,9 +189,17 @@ impl Tier {
         ensures kept { IsTier self.new.state }
         ensures spare { self.new.spare ≡ self.old.spare }
     {
+        self.calm();
         self.version = version;
-        unmark_all(&mut self.passed);
-        unmark_all(&mut self.aside);
+        seek_again(
+            &mut self.missing,
+            self.aside.listed(),
+            &self.wishes,
+            &self.base,
+            &self.held,
+            &self.coming,
+        );
+        self.aside.clear();
     }
 
     /// Keeps the wish of each patch, by which patches rank from now on.
@@ -167,5 +210,20 @@ impl Tier {
         ensures spare { self.new.spare ≡ self.old.spare }
     {
         copy_wishes(&mut self.wishes, wishes);
+        rank_leaving(
+            &mut self.leaving,
+            &self.held,
+            &self.pinned,
+            &self.passed,
+            &self.wishes,
+        );
+        rank_missing(
+            &mut self.missing,
+            &self.wishes,
+            &self.base,
+            &self.held,
+            &self.coming,
+            &self.aside,
+        );
     }
 }

@@ -6,8 +6,6 @@ ghost use Rattle.tier_model.specs.Ranks.{outranks};
 ghost use Rattle.tier_model.specs.Choices.{Chooses, ChoosesBy, OrAnswers, is_missing, may_leave};
 
 use super::Tier;
-use crate::coming::comes;
-use crate::marks::has_mark;
 
 impl Tier {
     /// The highest of the patches that are wished, no base patches, and neither held nor coming nor put
@@ -20,7 +18,7 @@ impl Tier {
         ensures same { self.new.state ≡ self.old.state }
         ensures spare { self.new.spare ≡ self.old.spare }
     {
-        self.best_missing(fits)
+        self.missing.greatest_where(fits)
     }
 
     /// The lowest of the patches that are held, neither pinned nor passed over, and below the given one.
@@ -30,29 +28,12 @@ impl Tier {
         ensures { Chooses (count self.now.state) (may_leave self.now.state below)
             (λ p q. outranks (kept_wish self.now.state) q p) result }
     {
-        let mut least = None;
-        for patch in 0..self.sizes.len() as u32 {
-            if self.may_leave(below, patch) && self.is_below(patch, least) {
-                least = Some(patch);
-            }
+        let patch = self.leaving.least()?;
+        if self.outranks(below, patch) {
+            Some(patch)
+        } else {
+            None
         }
-        least
-    }
-
-    // The same as `greatest_missing`.
-    fn best_missing<F: Fn(u32) -> bool>(&self, fits: F) -> Option<u32>
-        requires { (p : ℕ) → p < count self.now.state → F.pre fits p }
-        ensures { ChoosesBy (count self.now.state)
-            (λ p answer. OrAnswers (is_missing self.now.state p) (F.post fits p) answer)
-            (outranks (kept_wish self.now.state)) result }
-    {
-        let mut best = None;
-        for patch in 0..self.sizes.len() as u32 {
-            if self.is_missing(patch) && self.is_above(patch, best) && fits(patch) {
-                best = Some(patch);
-            }
-        }
-        best
     }
 
     // Whether one patch ranks above another.
@@ -64,63 +45,5 @@ impl Tier {
         let wish = self.wishes[patch as usize];
         let others = self.wishes[other as usize];
         others < wish || (wish == others && patch < other)
-    }
-
-    // Whether the patch ranks above the other, if there is one.
-    fn is_above(&self, patch: u32, other: Option<u32>) -> bool
-        requires patch { patch < count self.now.state }
-        requires other { MatchOption other (Unit {0}) (λ o. o < count self.now.state) }
-        ensures { MatchOption other (result ≡ true)
-            (λ o. result ≡ outranks (kept_wish self.now.state) patch o) }
-    {
-        match other {
-            Some(other) => self.outranks(patch, other),
-            None => true,
-        }
-    }
-
-    // Whether the patch ranks below the other, if there is one.
-    fn is_below(&self, patch: u32, other: Option<u32>) -> bool
-        requires patch { patch < count self.now.state }
-        requires other { MatchOption other (Unit {0}) (λ o. o < count self.now.state) }
-        ensures { MatchOption other (result ≡ true)
-            (λ o. result ≡ outranks (kept_wish self.now.state) o patch) }
-    {
-        match other {
-            Some(other) => self.outranks(other, patch),
-            None => true,
-        }
-    }
-
-    // Whether the tier holds the patch.
-    fn is_held(&self, patch: u32) -> bool
-        requires { patch < count self.now.state }
-        ensures { result ≡ is_held self.now.state patch }
-    {
-        self.held[patch as usize].is_some()
-    }
-
-    // Whether the patch is wished, no base patch, and neither held nor coming nor put aside.
-    fn is_missing(&self, patch: u32) -> bool
-        requires { patch < count self.now.state }
-        ensures { result ≡ is_missing self.now.state patch }
-    {
-        0 < self.wishes[patch as usize]
-            && !has_mark(&self.base, patch)
-            && !self.is_held(patch)
-            && !comes(&self.coming, patch)
-            && !has_mark(&self.aside, patch)
-    }
-
-    // Whether the patch is held, neither pinned nor passed over, and below the given one.
-    fn may_leave(&self, below: u32, patch: u32) -> bool
-        requires below { below < count self.now.state }
-        requires patch { patch < count self.now.state }
-        ensures { result ≡ may_leave self.now.state below patch }
-    {
-        self.is_held(patch)
-            && !has_mark(&self.pinned, patch)
-            && !has_mark(&self.passed, patch)
-            && self.outranks(below, patch)
     }
 }

@@ -1,28 +1,16 @@
--- The next patch is chosen, or isn't below the choice, or may not leave.
-use Rattle.std.proofs.Common.{◌≡◌, ◌∙◌, sym, ℕ, Bool}
-use Rattle.tier_model.specs.Tiers.{kept_wish}
-use Rattle.tier_model.specs.Ranks.{outranks}
-use Rattle.tier_model.specs.RankLaws.{outranks_is_ranking, turned_is_ranking}
-use Rattle.tier_model.specs.Choices.{may_leave}
-use Rattle.tier_budget.proofs.ChoiceSteps.{choice_refused, choice_passed, choice_taken}
+-- The least of the heap is below the given patch, or no patch is.
+use Rattle.std.proofs.Common.{sym, ◌∙◌}
+use Rattle.tier_budget.specs.TierView.{tier_view}
+use Rattle.tier_budget.proofs.LeavingSteps.{leaving_of_view}
+use Rattle.tier_budget.proofs.LeastHeld.{least_leaves, least_stays}
 use Rattle.tier_budget.proofs.tiers.Tier.least_held.Goals as goal
-use Rattle.tier_budget.proofs.tiers.Tier.least_held.Goals.{then-may_leave+then-is_below, else-may_leave, else-may_leave-via-then-may_leave+else-is_below, else-may_leave-via-else-may_leave}
 
-pub loop-patch-preserved : goal.loop-patch-preserved
-loop-patch-preserved c =
-    let s = c.args.self.now.state in
-    let n = c.loop-patch.patch in
-    let below = λ (p q : ℕ). outranks (kept_wish s) q p in
-    let ranking = turned_is_ranking (outranks (kept_wish s)) (outranks_is_ranking (kept_wish s)) in
-    let answers = λ (p : ℕ) (answer : Bool). may_leave s c.args.below p ≡ answer in
-    elim c.if-may_leave.branch [
-      | then-may_leave+then-is_below w ↦
-          rw w.least-is (choice_taken n answers below c.loop-patch.least w.is_below.result ranking c.loop-patch.invariant w.is_below.ensures w.if-is_below.true (sym c.may_leave.ensures ∙ w.if-may_leave.true))
-      | else-may_leave w ↦
-          rw w.least-is (elim w.else-may_leave.branch [
-            | else-may_leave-via-then-may_leave+else-is_below v ↦
-                choice_passed n answers below c.loop-patch.least v.is_below.result ranking c.loop-patch.invariant v.is_below.ensures v.if-is_below.false
-            | else-may_leave-via-else-may_leave v ↦
-                choice_refused n answers below c.loop-patch.least c.loop-patch.invariant (sym c.may_leave.ensures ∙ v.if-may_leave.false)
-          ])
-    ]
+pub returns-then-outranks : goal.returns-then-outranks
+returns-then-outranks c =
+    let heap = leaving_of_view (tier_view c.self.inside) c.args.self.now c.self.inside.leaving c.self.view_is c.self.invariant.leaving in
+    least_leaves c.args.self.now.state c.self.inside.leaving c.args.below _ heap c.in_ok-patch.ensures.least (sym c.outranks.ensures ∙ c.if-outranks.true)
+
+pub returns-else-outranks : goal.returns-else-outranks
+returns-else-outranks c =
+    let heap = leaving_of_view (tier_view c.self.inside) c.args.self.now c.self.inside.leaving c.self.view_is c.self.invariant.leaving in
+    least_stays c.args.self.now.state c.self.inside.leaving c.args.below _ heap c.in_ok-patch.ensures.least (sym c.outranks.ensures ∙ c.if-outranks.false)

@@ -8,7 +8,7 @@ use Rattle.tier_budget.proofs.tiers.Tier.outranks.Goals as goal
 pub returns-then-others-wish : goal.returns-then-others-wish
 returns-then-others-wish c =
     let seen = c.args.self.now in
-    let tier = subst (λ (v : TierSeen). IsTier v.state) c.self.view_is c.self.invariant.tier in
+    let tier = subst (λ (v : TierSeen). IsTier v.state) c.self.view_is c.self.invariant.sound.tier in
     more_wished (kept_wish seen.state) c.args.patch c.args.other c.index-wish.result.now c.index-others.result.now
     (wish_read (tier_view c.self.inside) seen c.args.patch c.index-wish.result.now c.self.view_is tier c.requires.patch c.index-wish.ensures)
     (wish_read (tier_view c.self.inside) seen c.args.other c.index-others.result.now c.self.view_is tier c.requires.other c.index-others.ensures)
@@ -17,7 +17,7 @@ returns-then-others-wish c =
 pub returns-then-wish-others : goal.returns-then-wish-others
 returns-then-wish-others c =
     let seen = c.args.self.now in
-    let tier = subst (λ (v : TierSeen). IsTier v.state) c.self.view_is c.self.invariant.tier in
+    let tier = subst (λ (v : TierSeen). IsTier v.state) c.self.view_is c.self.invariant.sound.tier in
     as_wished (kept_wish seen.state) c.args.patch c.args.other c.index-wish.result.now c.index-others.result.now
     (wish_read (tier_view c.self.inside) seen c.args.patch c.index-wish.result.now c.self.view_is tier c.requires.patch c.index-wish.ensures)
     (wish_read (tier_view c.self.inside) seen c.args.other c.index-others.result.now c.self.view_is tier c.requires.other c.index-others.ensures)
@@ -26,7 +26,7 @@ returns-then-wish-others c =
 pub returns-else-wish-others : goal.returns-else-wish-others
 returns-else-wish-others c =
     let seen = c.args.self.now in
-    let tier = subst (λ (v : TierSeen). IsTier v.state) c.self.view_is c.self.invariant.tier in
+    let tier = subst (λ (v : TierSeen). IsTier v.state) c.self.view_is c.self.invariant.sound.tier in
     less_wished (kept_wish seen.state) c.args.patch c.args.other c.index-wish.result.now c.index-others.result.now
     (wish_read (tier_view c.self.inside) seen c.args.patch c.index-wish.result.now c.self.view_is tier c.requires.patch c.index-wish.ensures)
     (wish_read (tier_view c.self.inside) seen c.args.other c.index-others.result.now c.self.view_is tier c.requires.other c.index-others.ensures)

@@ -1,0 +1,13 @@
+pub mod Totals
+pub mod Sets
+pub mod Orders
+pub mod Keeping
+pub mod Facts
+pub mod SessionSteps
+pub mod KeeperSteps
+pub mod Passages
+pub mod Seated
+pub mod Openings
+pub mod Rows
+pub mod Plain
+pub mod Uses

@@ -1,0 +1,9 @@
+pub mod Known
+pub mod WordRule
+pub mod Changes
+pub mod Seats
+pub mod Tables
+pub mod Makings
+pub mod Closings
+pub mod Places
+pub mod Setups
