@@ -104,7 +104,7 @@ keeps_machine mesh bytes tiers now words words_now seats seats_now board board_n
     let take = stops_take w a b is.world is.safe is.take stops in
     let same = world_stays mesh bytes tiers now b is.world (tiers_in now words_now seats_now board_now) safe in
     let inside : IsMachineIn (world_with mesh bytes now) mesh now words_now seats_now board_now =
-        subst (λ (v : World). IsMachineIn v mesh now words_now seats_now board_now) (sym same) (record { world = is.world; safe = safe; take = take; pins = λ p. pins p ∙ is.pins p }) in
+    subst (λ (v : World). IsMachineIn v mesh now words_now seats_now board_now) (sym same) (record { world = is.world; safe = safe; take = take; pins = λ p. pins p ∙ is.pins p }) in
     record {
       is = record { world = inside.world; safe = inside.safe; take = inside.take; on_board = for; over = over; seated = seated; pins = inside.pins };
       world = same;

@@ -70,6 +70,7 @@ stopped w sessions posted version u k a m n setting reaches tiers epochs users =
   where
     still : state_at sessions posted version n ≡ record (state_at sessions posted version m) { chain = chain_of n.tiers m.words.epochs }
     still = stands_as sessions posted version m n epochs users
+
     by_tiers : (n.tiers ≡ m.tiers) ⊎ TakesWishes u.board k m.tiers n.tiers → StopsAt w a (state_at sessions posted version n)
     by_tiers (inl same) = AtEvents (subst (Reaches w a) (sym (still ∙ ap (λ (ts : List TierState). record (state_at sessions posted version m) { chain = chain_of ts m.words.epochs }) same)) reaches)
     by_tiers (inr takes) = subst (StopsAt w a) (sym (still ∙ took_wishes w (state_at sessions posted version m) k takes.before u.board n.tiers setting.board takes.is)) (AtTurn k takes.before reaches takes.was)

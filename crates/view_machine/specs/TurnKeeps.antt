@@ -48,7 +48,7 @@ pub turns_keep : (mesh mesh_now : MeshLists) (bytes bytes_now : Option (List ℕ
     → StaysMachine mesh mesh_now bytes bytes_now tiers now words_now seats board
 turns_keep mesh mesh_now bytes bytes_now tiers now words words_now seats board is same_mesh same_bytes stops keeps =
     let kept : KeepsMachine mesh bytes tiers now words_now seats board =
-        keeps_machine mesh bytes tiers now words words_now seats seats board board is stops is.on_board is.over (seated_still mesh words words_now seats.sessions keeps is.seated) keeps.pins in
+    keeps_machine mesh bytes tiers now words words_now seats seats board board is stops is.on_board is.over (seated_still mesh words words_now seats.sessions keeps is.seated) keeps.pins in
     let here : StaysMachine mesh mesh bytes bytes tiers now words_now seats board = record { is = kept.is; world = kept.world } in
     subst (λ (m : MeshLists). StaysMachine mesh m bytes bytes_now tiers now words_now seats board) (sym same_mesh)
     (subst (λ (bs : Option (List ℕ)). StaysMachine mesh mesh bytes bs tiers now words_now seats board) (sym same_bytes) here)

@@ -29,11 +29,12 @@ impl<'a, S: Store> Model for Machine<'a, S> {
 
     ghost view = { λ m.
         record {
-        chain = m.chain;
-        words = words_seen m.words;
-        seats = m.seats;
-        board = m.board;
-        bytes = file_bytes (S.files m.chain.store) m.chain.file } };
+          chain = m.chain;
+          words = words_seen m.words;
+          seats = m.seats;
+          board = m.board;
+          bytes = file_bytes (S.files m.chain.store) m.chain.file;
+        } };
 
     ghost invariant = { λ m.
         IsMachine m.chain.mesh.lists (file_bytes (S.files m.chain.store) m.chain.file)

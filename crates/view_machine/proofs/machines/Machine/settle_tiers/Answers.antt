@@ -65,7 +65,7 @@ module _ (g : given.Over) (c : goal.After-settle g) where
   stops : OnErr c.settle.result (StopsAt (world_with mesh bytes tiers) (state_in tiers words seats board) (state_in now words_now seats board))
   stops = if_err_both c.settle.result
       (λ logs again. settling_stops mesh bytes tiers words seats board is false (patch_count c.self.inside.words) [] (g.S.Store.faults c.self.inside.chain.store) (g.S.Store.taken c.self.inside.chain.store)
-        now (patch_count c.settle.new.keeper) words_now [] (g.S.Store.faults c.settle.new.self.store) (g.S.Store.taken c.settle.new.self.store) c.args.log.now.items c.settle.new.log.items logs)
+      now (patch_count c.settle.new.keeper) words_now [] (g.S.Store.faults c.settle.new.self.store) (g.S.Store.taken c.settle.new.self.store) c.args.log.now.items c.settle.new.log.items logs)
       c.settle.ensures.stopped c.settle.ensures.stopped
 
   abbrev seen_now : MachineSeen g.row.S.Denot

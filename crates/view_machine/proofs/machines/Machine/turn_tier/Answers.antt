@@ -73,13 +73,13 @@ module _ (g : given.Over) (c : goal.After-turn g) where
   turns : IfOk c.turn.result (λ answer. TurnsTo (world_with mesh bytes tiers) c.args.tier (state_in tiers words seats board) answer (state_in now words_now seats board))
   turns = if_ok_then c.turn.result
       (λ answer one. turn_is mesh bytes tiers words seats board is false (patch_count c.self.inside.words) [] (g.S.Store.faults c.self.inside.chain.store) (g.S.Store.taken c.self.inside.chain.store)
-        now (patch_count c.turn.new.keeper) words_now [] (g.S.Store.faults c.turn.new.self.store) (g.S.Store.taken c.turn.new.self.store) c.args.tier answer one)
+      now (patch_count c.turn.new.keeper) words_now [] (g.S.Store.faults c.turn.new.self.store) (g.S.Store.taken c.turn.new.self.store) c.args.tier answer one)
       made
 
   stops : OnErr c.turn.result (StopsAt (world_with mesh bytes tiers) (state_in tiers words seats board) (state_in now words_now seats board))
   stops = if_err_both c.turn.result
       (λ takes epochs. turn_stops mesh bytes tiers words seats board is false (patch_count c.self.inside.words) [] (g.S.Store.faults c.self.inside.chain.store) (g.S.Store.taken c.self.inside.chain.store)
-        now (patch_count c.turn.new.keeper) words_now [] (g.S.Store.faults c.turn.new.self.store) (g.S.Store.taken c.turn.new.self.store) c.args.tier takes epochs (c.turn.ensures.use_sets refl))
+      now (patch_count c.turn.new.keeper) words_now [] (g.S.Store.faults c.turn.new.self.store) (g.S.Store.taken c.turn.new.self.store) c.args.tier takes epochs (c.turn.ensures.use_sets refl))
       c.turn.ensures.none c.turn.ensures.epochs
 
   abbrev seen_now : MachineSeen g.row.S.Denot
