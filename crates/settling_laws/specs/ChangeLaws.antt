@@ -119,10 +119,10 @@ eligible-passed_over told s v q is = record {
 abbrev pub spent_with : ℕ → (ℕ → Bool) → ℕ → Bool
 spent_with c spent p = cond (eqb p c) true (spent p)
 
-spent_here : (c : ℕ) (spent : ℕ → Bool) → spent_with c spent c ≡ true
+pub spent_here : (c : ℕ) (spent : ℕ → Bool) → spent_with c spent c ≡ true
 spent_here c spent = cond-true (eqb c c) true (spent c) (eq-eqb c c refl)
 
-spent_other : (c : ℕ) (spent : ℕ → Bool) (q : ℕ) → q ≢ c → spent_with c spent q ≡ spent q
+pub spent_other : (c : ℕ) (spent : ℕ → Bool) (q : ℕ) → q ≢ c → spent_with c spent q ≡ spent q
 spent_other c spent q ne = cond-false (eqb q c) true (spent q) (ne_eqb q c ne)
 
 -- no patch that may be reserved is spent
@@ -130,7 +130,7 @@ eligible_unspent : (told : Told) (s : TierState) (spent : ℕ → Bool) (c : ℕ
 eligible_unspent told s spent c above within eligible =
     false_from_ne_true (spent c) (λ is. both_ways (outranks (kept_wish s) c c) (outranks_never_itself (kept_wish s) c) (above c c is within eligible))
 
-above-reserved : (told : Told) (s : TierState) (spent : ℕ → Bool) (c : ℕ) → Enters told s c → AreSpentAbove told s spent → AreSpentAbove told (reserved s c) (spent_with c spent)
+pub above-reserved : (told : Told) (s : TierState) (spent : ℕ → Bool) (c : ℕ) → Enters told s c → AreSpentAbove told s spent → AreSpentAbove told (reserved s c) (spent_with c spent)
 unfolding reserved
 above-reserved told s spent c enters above p q is within eligible =
     let before = eligible-reserved told s c q eligible in
@@ -182,7 +182,7 @@ underway-reserved told s c turns enters way =
 
 -- ---- its body comes
 
-above-arrived : (told : Told) (s : TierState) (spent : ℕ → Bool) (p : ℕ) (body : SeenBody) → AreSpentAbove told s spent → AreSpentAbove told (arrived s p body) spent
+pub above-arrived : (told : Told) (s : TierState) (spent : ℕ → Bool) (p : ℕ) (body : SeenBody) → AreSpentAbove told s spent → AreSpentAbove told (arrived s p body) spent
 unfolding arrived
 above-arrived told s spent p body above r q is within eligible = above r q is within (eligible-arrived told s p body q eligible)
 
@@ -218,7 +218,7 @@ underway-arrived told s p body turns tier bare way =
 -- ---- it doesn't come
 
 -- a patch that the tier below hasn't isn't eligible
-lost_is_never : (told : Told) (s : TierState) (p : ℕ) → told.has p ≡ false → IsEligible told (aborted s p reasons.Lost) p → ⊥
+pub lost_is_never : (told : Told) (s : TierState) (p : ℕ) → told.has p ≡ false → IsEligible told (aborted s p reasons.Lost) p → ⊥
 lost_is_never told s p has is = both_ways (told.has p) has is.has
 
 -- nor is one that was put aside
@@ -230,7 +230,7 @@ changed_is_never : (told : Told) (s : TierState) (p : ℕ) (fault : FileFault) �
 unfolding aborted aside_after
 changed_is_never told s p fault within is = both_ways (is_marked (slice_set s.aside p true) p) is.not_aside (get_or-set_same s.aside p true false within)
 
-above-aborted : (told : Told) (s : TierState) (spent : ℕ → Bool) (p : ℕ) (why : Abort) → (IsEligible told (aborted s p why) p → ⊥) → AreSpentAbove told s spent → AreSpentAbove told (aborted s p why) spent
+pub above-aborted : (told : Told) (s : TierState) (spent : ℕ → Bool) (p : ℕ) (why : Abort) → (IsEligible told (aborted s p why) p → ⊥) → AreSpentAbove told s spent → AreSpentAbove told (aborted s p why) spent
 unfolding aborted
 above-aborted told s spent p why never above r q is within eligible =
     above r q is within (eligible-aborted told s p why q (λ same. never (subst (IsEligible told (aborted s p why)) same eligible)) eligible)
@@ -271,14 +271,14 @@ underway-changed told s p fault turns tier bare way = underway-aborted told s p 
 -- ---- it is held
 
 -- the first patch that comes, where all have their bodies
-record IsReady (s : TierState) (p : ℕ) : Type 0 where
-  comes : is_coming s.coming p ≡ true
-  full : is_full s.coming p ≡ true
-  away : is_held s p ≡ false
-  there : is_some (slice_index_or s.came p None) ≡ true
-  within : p < count s
+pub record IsReady (s : TierState) (p : ℕ) : Type 0 where
+  pub comes : is_coming s.coming p ≡ true
+  pub full : is_full s.coming p ≡ true
+  pub away : is_held s p ≡ false
+  pub there : is_some (slice_index_or s.came p None) ≡ true
+  pub within : p < count s
 
-ready_from : (s : TierState) (p : ℕ) → IsTier s → first_bare s.coming ≡ None → first_coming s.coming ≡ Some p → IsReady s p
+pub ready_from : (s : TierState) (p : ℕ) → IsTier s → first_bare s.coming ≡ None → first_coming s.coming ≡ Some p → IsReady s p
 ready_from s p tier bare first =
     let comes = first_comes s.coming p first in
     let full = all_are_full s.coming p bare comes in
@@ -290,12 +290,12 @@ ready_from s p tier bare first =
       within = comes_within s p tier comes;
     }
 
-held-committed : (s : TierState) (p : ℕ) → IsTier s → IsReady s p → is_held (committed s p) p ≡ true
+pub held-committed : (s : TierState) (p : ℕ) → IsTier s → IsReady s p → is_held (committed s p) p ≡ true
 unfolding committed
 held-committed s p tier ready =
     ap (λ o. is_some o) (get_or-set_same s.held p (slice_index_or s.came p None) None (let within = ready.within in let sized = tier.sized.held in omega arith)) ∙ ready.there
 
-above-committed : (told : Told) (s : TierState) (spent : ℕ → Bool) (p : ℕ) → IsTier s → IsReady s p → AreSpentAbove told s spent → AreSpentAbove told (committed s p) spent
+pub above-committed : (told : Told) (s : TierState) (spent : ℕ → Bool) (p : ℕ) → IsTier s → IsReady s p → AreSpentAbove told s spent → AreSpentAbove told (committed s p) spent
 unfolding committed
 above-committed told s spent p tier ready above r q is within eligible =
     above r q is within (eligible-committed told s p q
@@ -329,18 +329,18 @@ underway-committed told s p turns tier bare first way =
 -- ---- it leaves, or is passed over
 
 -- the victim isn't spent, since the candidate outranks it
-victim_unspent : (told : Told) (s : TierState) (spent : ℕ → Bool) (v : ℕ) → AreSpentAbove told s spent → Leaves told s v → spent v ≡ false
+pub victim_unspent : (told : Told) (s : TierState) (spent : ℕ → Bool) (v : ℕ) → AreSpentAbove told s spent → Leaves told s v → spent v ≡ false
 victim_unspent told s spent v above leaves =
     let candidate = leaves.is_candidate in
     false_from_ne_true (spent v) (λ is. both_ways (outranks (kept_wish s) leaves.ahead v)
     ((outranks_is_ranking (kept_wish s)).one_way v leaves.ahead (above v leaves.ahead is candidate.within candidate.eligible)) leaves.is_victim.may.below)
 
-nothing_there : (s : TierState) (q : ℕ) → s.coming ≡ [] → (is_coming s.coming q ≡ false) × (is_full s.coming q ≡ false)
+pub nothing_there : (s : TierState) (q : ℕ) → s.coming ≡ [] → (is_coming s.coming q ≡ false) × (is_full s.coming q ≡ false)
 nothing_there s q none =
     let away = false_from_ne_true (is_coming s.coming q) (λ comes. nothing_comes q (subst (λ (cs : List Coming). is_coming cs q ≡ true) none comes)) in
     (away, not_full s q away)
 
-above-dropped : (told : Told) (s : TierState) (spent : ℕ → Bool) (v : ℕ) → Leaves told s v → AreSpentAbove told s spent → AreSpentAbove told (dropped s v) spent
+pub above-dropped : (told : Told) (s : TierState) (spent : ℕ → Bool) (v : ℕ) → Leaves told s v → AreSpentAbove told s spent → AreSpentAbove told (dropped s v) spent
 unfolding dropped
 above-dropped told s spent v leaves above r q is within eligible =
     let candidate = leaves.is_candidate in
@@ -380,7 +380,7 @@ underway-dropped told s v turns tier leaves way =
     (falls (way.spent v) (way.spent v) (way.spent v) (way.spent v) (stage (dropped s v) v) (stage s v) Away Free refl refl (stage-dropped_here told s v tier leaves) (stage-victim told s v leaves) (free_to_away (way.spent v) (victim_unspent told s way.spent v way.above leaves)))
     way.bound
 
-above-passed_over : (told : Told) (s : TierState) (spent : ℕ → Bool) (v : ℕ) → AreSpentAbove told s spent → AreSpentAbove told (passed_over s v) spent
+pub above-passed_over : (told : Told) (s : TierState) (spent : ℕ → Bool) (v : ℕ) → AreSpentAbove told s spent → AreSpentAbove told (passed_over s v) spent
 unfolding passed_over
 above-passed_over told s spent v above r q is within eligible = above r q is within (eligible-passed_over told s v q eligible)
 

@@ -44,7 +44,7 @@ underway-followed told s o x turns tier (Keeps v uses none victim leaves top is)
 underway-followed told s o x turns tier (Rests rest) on way = absurd (on refl)
 
 -- what may be reserved later, might be before
-eligible_before : (told later : Told) (s : TierState) (q : ℕ) → IsLater told later → IsEligible later s q → IsEligible told s q
+pub eligible_before : (told later : Told) (s : TierState) (q : ℕ) → IsLater told later → IsEligible later s q → IsEligible told s q
 eligible_before told later s q is eligible = record {
   wished = eligible.wished;
   not_base = eligible.not_base;

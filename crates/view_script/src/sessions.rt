@@ -7,8 +7,8 @@ ghost use Rattle.script_model.specs.OrderFaults.{names_no_session, is_opening, o
 ghost use Rattle.view_script.specs.Stages.{history_of};
 
 use script_model::{Mode, Order, SessionStage};
-use token_words::SESSIONS;
 use text_model::ScriptFault;
+use token_words::SESSIONS;
 
 /// The stage of each session by its number; 0 is no session's.
 #[derive(Drop)]

@@ -17,7 +17,7 @@ stop-no_write_fault fact command (statuses.Script fault) stop is = absurd stop
 stop-no_write_fault fact command (statuses.Budget need given) stop is = absurd stop
 stop-no_write_fault fact command statuses.Memory stop is = absurd cc
 stop-no_write_fault fact command (statuses.Changed patch fault) stop is = absurd cc
-stop-no_write_fault fact command (statuses.Wide patch) stop is = absurd stop
+stop-no_write_fault fact command (statuses.Wide patch) stop is = absurd cc
 
 -- nor one of words that are no command
 pub stop-not_usage : (command : Command) (status : Status) → CanStop command status → status ≡ statuses.Usage → ⊥
@@ -30,4 +30,4 @@ stop-not_usage command (statuses.Script fault) stop is = stop
 stop-not_usage command (statuses.Budget need given) stop is = stop
 stop-not_usage command statuses.Memory stop is = cc
 stop-not_usage command (statuses.Changed patch fault) stop is = cc
-stop-not_usage command (statuses.Wide patch) stop is = stop
+stop-not_usage command (statuses.Wide patch) stop is = cc

@@ -1,3 +1,4 @@
+pub mod ConvertLemmas
 pub mod EndingLemmas
 pub mod IndexLemmas
 pub mod WordLemmas

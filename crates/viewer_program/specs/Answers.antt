@@ -3,6 +3,7 @@ use Rattle.std.specs.Prelude.{◌≡◌, ℕ, List, Ok, Err}
 use Rattle.file_model.specs.Lists.{FileLists}
 use Rattle.file_model.specs.Reading.{file_in}
 use Rattle.file_model.specs.Rules.{IsPatchFile}
+use Rattle.convert_laws.specs.Converted.{with_version, IsLeastWide}
 use Rattle.mesh_model.specs.declared.refusals.Refusal.{Refusal}
 use Rattle.mesh_model.specs.declared.refusals.Refusal.TheVariants.{File, Dag}
 use Rattle.mesh_model.specs.Accepted.{IsAccepted, IsMeshFault}
@@ -10,13 +11,14 @@ use Rattle.text_model.specs.AcceptedText.{IsAcceptedText, IsAcceptedLine}
 use Rattle.still_texts.specs.Shown.{IsBaseText, IsStillText}
 use Rattle.still_texts.specs.Full.{IsFullText}
 use Rattle.viewer_program.specs.declared.commands.Command.{Command}
-use Rattle.viewer_program.specs.declared.commands.Command.TheVariants.{Base, Check, Full}
+use Rattle.viewer_program.specs.declared.commands.Command.TheVariants.{Base, Check, Full, Convert}
 
 -- the text that a command writes of an accepted file with this root
 abbrev pub IsTextOf : Command → FileLists → ℕ → List ℕ → Type 0
 IsTextOf Base file root text = IsBaseText file root text
 IsTextOf Check file root text = IsAcceptedText file root text
 IsTextOf (Full view) file root text = IsFullText view file root text
+IsTextOf (Convert version) file root text = IsPatchFile (with_version version file) text
 
 -- a text of a file of these bytes, which are an accepted file
 pub record IsOfAccepted (is_text : FileLists → ℕ → List ℕ → Type 0) (bytes text : List ℕ) : Type 0 where
@@ -32,8 +34,29 @@ abbrev pub IsRefusalOf : List ℕ → Refusal → Type 0
 IsRefusalOf bytes (File fault) = file_in bytes ≡ Err fault
 IsRefusalOf bytes (Dag fault) = (file : FileLists) × (file_in bytes ≡ Ok file) × IsMeshFault file fault
 
+-- the command asks for version 2, and the patch is the least of the file that spreads too wide for it
+abbrev pub IsWideFor : Command → FileLists → ℕ → Type 0
+IsWideFor (Convert version) file patch = (version ≡ 2) × IsLeastWide file.bodies patch
+IsWideFor command file patch = ⊥
+
+-- the bytes are an accepted file with such a patch
+pub record IsWideIn (command : Command) (bytes : List ℕ) (patch : ℕ) : Type 0 where
+  pub file : FileLists
+  pub root : ℕ
+  pub read : file_in bytes ≡ Ok file
+  pub spelling : IsPatchFile file bytes
+  pub accepted : IsAccepted file root
+  pub is : IsWideFor command file patch
+
+-- a patch file of this version
+pub record IsFileText (version : ℕ) (text : List ℕ) : Type 0 where
+  pub file : FileLists
+  pub version_is : file.index.version ≡ version
+  pub is : IsPatchFile file text
+
 -- a text of the command's kind, of whatever file
 abbrev pub IsTextOfKind : Command → List ℕ → Type 0
 IsTextOfKind Base text = IsStillText text
 IsTextOfKind Check text = IsAcceptedLine text
 IsTextOfKind (Full view) text = IsStillText text
+IsTextOfKind (Convert version) text = IsFileText version text

@@ -5,3 +5,4 @@ pub mod Endings
 pub mod Told
 pub mod Numbered
 pub mod Strips
+pub mod Outputs

@@ -11,6 +11,8 @@ pub enum Command {
     Check,
     /// The frame of the view where every try is granted.
     Full(View),
+    /// The file in a version.
+    Convert(u16),
 }
 
 mod reading;

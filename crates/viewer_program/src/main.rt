@@ -4,14 +4,15 @@
 #![tactic(auto)]
 
 mod commands;
+mod converts;
 mod faults;
+mod outputs;
 mod refusals;
 mod run;
 mod statuses;
 mod strips;
 #[cfg(test)]
 mod tests;
-mod texts;
 mod words;
 
 use run::run_still;

@@ -1,25 +1,41 @@
 //! The commands, from their words to their status.
 
-ghost use Rattle.std.specs.Prelude.{◌≡◌, ◌↔◌, map, string_bytes, IfSome, IsNone};
+ghost use Rattle.std.specs.Prelude.{◌≡◌, ◌↔◌, map, string_bytes, IfSome, IsNone, OnErr};
 ghost use Rattle.text_model.specs.declared.statuses.Status.TheVariants.{Usage, ReadFault, WriteFault};
 ghost use Rattle.view_outside.specs.Faults.{Rose};
 ghost use Rattle.view_outside.specs.Files.{HasName, LacksName};
 ghost use Rattle.view_outside.specs.OnlyRead.{OnlyIf};
-ghost use Rattle.viewer_program.specs.Commands.{command_in, name_in};
+ghost use Rattle.patch_file.specs.Written.{Wrote};
+ghost use Rattle.viewer_program.specs.Commands.{command_in, name_in, IsKnown};
 ghost use Rattle.viewer_program.specs.Answers.{IsTextOf, IsOfAccepted, IsTextOfKind};
 ghost use Rattle.viewer_program.specs.Endings.{StopsAt, CanStop, Ends, IsChange, IsQuiet};
+ghost use Rattle.viewer_program.specs.Outputs.{output_text, IsWritable};
 ghost use Rattle.viewer_program.specs.Strips.{columns_in, IsStripText, IsForMemory};
 ghost use Rattle.viewer_program.specs.Told.{named_bytes};
 
 use crate::commands::{Command, command_of, file_name};
+use crate::outputs::{Output, command_output};
 use crate::strips::{strip_columns, write_strip};
-use crate::texts::command_text;
 use frame_writer::write_text;
+use patch_file::write_file;
 use std::alloc::Global;
 use text_model::Status;
 use view_outside::{Sink, Source, Store};
 
-// Writes the command's text of the file of this name.
+// Writes all that a command writes, or a proper beginning where the sink fails.
+fn write_output<O: Sink>(output: &Output, sink: &mut O) -> Result<(), file_model::WriteFault>
+    requires { IsWritable output.now }
+    ensures text { Wrote result (O.written sink.old) (O.written sink.new)
+        (output_text output.now) }
+    ensures cause { OnErr result (Rose (O.faults sink.old) (O.faults sink.new)) }
+{
+    match output {
+        Output::Text(text) => write_text(text, sink),
+        Output::File(parts) => write_file(parts, sink),
+    }
+}
+
+// Writes what the command asks for of the file of this name.
 fn run_command<S: Store, O: Sink>(
     alloc: Global,
     command: Command,
@@ -27,9 +43,10 @@ fn run_command<S: Store, O: Sink>(
     store: &mut S,
     sink: &mut O,
 ) -> Status
+    requires { IsKnown command }
     ensures told { IfSome (named_bytes (S.files store.old) name.now)
         (λ bytes.
-        Ends (IsOfAccepted (IsTextOf command) bytes) (StopsAt bytes) result
+        Ends (IsOfAccepted (IsTextOf command) bytes) (StopsAt command bytes) result
         (O.written sink.old) (O.written sink.new)) }
     ensures statuses { Ends (IsTextOfKind command) (CanStop command) result (O.written sink.old)
         (O.written sink.new) }
@@ -45,8 +62,8 @@ fn run_command<S: Store, O: Sink>(
     let Ok(file) = store.find(name) else {
         return Status::ReadFault;
     };
-    match command_text(alloc, command, store, file) {
-        Ok(text) => match write_text(&text, sink) {
+    match command_output(alloc, command, store, file) {
+        Ok(output) => match write_output(&output, sink) {
             Ok(()) => Status::Ok,
             Err(_) => Status::WriteFault,
         },
@@ -90,7 +107,7 @@ pub fn run_still<S: Store, I: Source, O: Sink>(
         (λ command.
         IfSome (named_bytes (S.files store.old) (name_in (map string_bytes words.now)))
         (λ bytes.
-        Ends (IsOfAccepted (IsTextOf command) bytes) (StopsAt bytes) result
+        Ends (IsOfAccepted (IsTextOf command) bytes) (StopsAt command bytes) result
         (O.written sink.old) (O.written sink.new))) }
     // Which statuses a row can have whatever the store tells. What it writes is a text of its kind.
     ensures statuses { IfSome (command_in (map string_bytes words.now))

@@ -17,6 +17,7 @@ use view_outside::{MemorySink, MemorySource, MemoryStore, NamedFile, Store};
 mod accepted;
 mod changes;
 mod changing;
+mod converting;
 mod environment;
 mod failures;
 mod files;

@@ -10,7 +10,7 @@ const RIGHT: [&str; 8] = ["full", "Q", "12", "2", "0", "3", "100", "1000"];
 const FAN: [&str; 8] = ["full", "Q", "2", "2", "104", "100", "9", "100"];
 
 // How the words end over a file whose bytes in these places become 9.
-fn end_of(
+pub(super) fn end_of(
     alloc: Global,
     words: &[&str],
     bytes: &[u8],

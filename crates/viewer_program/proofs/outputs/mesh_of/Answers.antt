@@ -1,6 +1,6 @@
 use Rattle.std.proofs.lemmas.Result.{err_from_is_err_and}
 use Rattle.viewer_program.proofs.IndexLemmas.{index_refused}
-use Rattle.viewer_program.proofs.texts.mesh_of.Goals as goal
+use Rattle.viewer_program.proofs.outputs.mesh_of.Goals as goal
 
 pub returns-in_err-index-clause-told : goal.returns-in_err-index-clause-told
 returns-in_err-index-clause-told g c =

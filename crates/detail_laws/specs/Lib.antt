@@ -1,0 +1,12 @@
+pub mod Needs
+pub mod NeedLaws
+pub mod Gathers
+pub mod GatherLaws
+pub mod AtRest
+pub mod Settled
+pub mod BaseLaws
+pub mod TurnsLeft
+pub mod ExactTurns
+pub mod Wanted
+pub mod FullRounds
+pub mod Reached

@@ -1,0 +1,11 @@
+pub mod Seats
+pub mod SeatChanges
+pub mod Orders
+pub mod SeatLaws
+pub mod OrderLaws
+pub mod ToldLaws
+pub mod Boards
+pub mod BoardLaws
+pub mod StartLaws
+pub mod SeatParts
+pub mod SeatSteps

@@ -1,0 +1,46 @@
+use Rattle.std.proofs.Common.{ℕ, List, [], ◌++◌, codes, refl, sym, ap, subst, ◌∙◌}
+use Rattle.mesh_model.specs.Meshes.{MeshLists}
+use Rattle.view_outside.specs.Files.{file_bytes}
+use Rattle.script_model.specs.declared.orders.Order.TheVariants as orders
+use Rattle.token_words.specs.PlainTokens.{words_seen}
+use Rattle.run_model.specs.Lines.{DidView}
+use Rattle.run_model.specs.LineTexts.{session_line}
+use Rattle.session_seats.specs.Boards.{IsBoardFor}
+use Rattle.session_seats.specs.Seats.{AreSeated}
+use Rattle.view_machine.specs.LineTells.{DoesLine}
+use Rattle.view_machine.specs.Machines.{MachineSeen, world_of, run_state, world_with, state_in}
+use Rattle.view_machine.specs.SeatLines.{seats_post, does_keep}
+use Rattle.view_machine.proofs.machines.Machine.view.Goals as goal
+
+pub invariant_of-self-2 : goal.invariant_of-self-2
+invariant_of-self-2 g c =
+    let m = c.self.inside in
+    let bytes = file_bytes (g.S.Store.files m.chain.store) m.chain.file in
+    let words = words_seen m.words in
+    let e = c.in_ok-set_view.ensures in
+    let seats_now = c.set_view.new.self in
+    let board_now = c.set_view.new.board in
+    let order = orders.View c.args.session c.args.view in
+    let did = DidView c.args.session in
+    let seated : AreSeated m.seats.mesh words m.seats.sessions = subst (λ (lists : MeshLists). AreSeated lists words m.seats.sessions) (sym c.self.invariant.over) c.self.invariant.seated in
+    (does_keep m.chain.mesh.lists bytes m.chain.tiers words m.seats m.board c.self.invariant words seats_now order did board_now
+    (seats_post m.chain.mesh.lists bytes m.chain.tiers words m.seats m.board c.self.invariant words seats_now order did board_now (e.does words seated)) e.mesh (e.seated words seated)
+    (subst (λ (lists : MeshLists). IsBoardFor lists board_now) (e.mesh ∙ c.self.invariant.over) e.board) (λ p. refl)).is
+
+pub returns-clause-line : goal.returns-clause-line
+returns-clause-line g c =
+    let m = c.self.inside in
+    let bytes = file_bytes (g.S.Store.files m.chain.store) m.chain.file in
+    let words = words_seen m.words in
+    let seats_now = c.set_view.new.self in
+    let board_now = c.set_view.new.board in
+    let order = orders.View c.args.session c.args.view in
+    let did = DidView c.args.session in
+    let text = c.add_view.new.out.items in
+    let seated : AreSeated m.seats.mesh words m.seats.sessions = subst (λ (lists : MeshLists). AreSeated lists words m.seats.sessions) (sym c.self.invariant.over) c.self.invariant.seated in
+    let here : DoesLine (world_with m.chain.mesh.lists bytes m.chain.tiers) order (state_in m.chain.tiers words m.seats m.board) (state_in m.chain.tiers words seats_now board_now) text = record {
+      did = did;
+      does = seats_post m.chain.mesh.lists bytes m.chain.tiers words m.seats m.board c.self.invariant words seats_now order did board_now (c.in_ok-set_view.ensures.does words seated);
+      is = c.in_ok-add_view.ensures.ok.is ∙ ap (λ (t : List ℕ). t ++ session_line (codes "view") c.args.session []) c.new-text.ensures.items;
+    } in
+    subst (λ (seen : MachineSeen g.row.S.Denot). DoesLine (world_of seen) order (run_state seen) (state_in m.chain.tiers words seats_now board_now) text) c.self.view_is here

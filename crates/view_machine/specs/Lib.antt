@@ -1,0 +1,10 @@
+pub mod ToldBodies
+pub mod TurnStates
+pub mod Stops
+pub mod SettleStates
+pub mod Machines
+pub mod MachineLaws
+pub mod LineTells
+pub mod TurnClauses
+pub mod SeatLines
+pub mod TurnKeeps

@@ -1,0 +1,108 @@
+-- A settling of a chain, as turns in the state of a run.
+use Rattle.std.proofs.Common.{◌≢◌, ℕ, zero, suc, List, [], ◌∷◌, ◌++◌, Option}
+use Rattle.session_model.specs.Sessions.{SessionState}
+use Rattle.tier_model.specs.declared.turns.Turn.{Turn}
+use Rattle.tier_model.specs.declared.turns.Turn.TheVariants.{Idle}
+use Rattle.tier_model.specs.Ranks.{Posted}
+use Rattle.tier_model.specs.Turns.{Board}
+use Rattle.tier_model.specs.Chains.{Chain}
+use Rattle.tier_model.specs.Settling.{TurnsToIdle, Last, More, Settles, Settled, Tier}
+use Rattle.cache_chain.specs.TurnRuns.{Setting, Moment, MakesTurns, Begins}
+use Rattle.cache_chain.specs.TurnRuns.{Then as AndTurn}
+use Rattle.run_model.specs.Worlds.{World, IsWorld}
+use Rattle.run_model.specs.States.{State, board_of}
+use Rattle.run_model.specs.Turning.{TurnsTo}
+use Rattle.run_model.specs.Events.{Turns, Reaches, Stays, Then}
+use Rattle.run_model.specs.Safe.{IsSafe}
+use Rattle.run_model.specs.SafeLaws.{events_keep_safe}
+use Rattle.run_model.specs.Lines.{IdlesTo, LastTurn, MoreTurns, SettlesTo, AllSettled, TierSettles}
+use Rattle.view_machine.specs.TurnStates.{state_at, IsSettingOf, turn_tells}
+
+-- ---- which turns a settling has
+
+-- turns of tier k, of which the last alone is idle
+data IdlesLast (k : ℕ) : List (ℕ × Turn) → Type 0 where
+  IdleLast : IdlesLast k ((k, Idle) ∷ [])
+  IdleLater : {log : List (ℕ × Turn)} (answer : Turn) → answer ≢ Idle → IdlesLast k log → IdlesLast k ((k, answer) ∷ log)
+
+-- such turns of each of the first n tiers, from the lowest of them to the top
+data SettleLog : ℕ → List (ℕ × Turn) → Type 0 where
+  NoTier : SettleLog zero []
+  OneTier : {n : ℕ} {log rest : List (ℕ × Turn)} → IdlesLast n log → SettleLog n rest → SettleLog (suc n) (log ++ rest)
+
+idles_last : (board : Board) (k : ℕ) (a b : Chain) (log : List (ℕ × Turn)) → TurnsToIdle board k a log b → IdlesLast k log
+idles_last board k a b _ (Last turn) = IdleLast
+idles_last board k a c _ (More {b = b} {log = log} answer going turn rest) = IdleLater answer going (idles_last board k b c log rest)
+
+settle_log : (board : Board) (n : ℕ) (a b : Chain) (log : List (ℕ × Turn)) → Settles board n a log b → SettleLog n log
+settle_log board _ a _ _ Settled = NoTier
+settle_log board _ a c _ (Tier {n = n} {b = b} {log = log} {rest = rest} turns settles) = OneTier (idles_last board n a b log turns) (settle_log board n b c rest settles)
+
+-- ---- turns in the state of a run
+
+-- these turns were made, one after another
+pub data MakesAll (w : World) : State → List (ℕ × Turn) → State → Type 0 where
+  MakesNone : {a : State} → MakesAll w a [] a
+  MakesMore : {a b c : State} {log : List (ℕ × Turn)} (k : ℕ) (answer : Turn) → TurnsTo w k a answer b → MakesAll w b log c → MakesAll w a ((k, answer) ∷ log) c
+
+makes_both : (w : World) (a b c : State) (log rest : List (ℕ × Turn)) → MakesAll w a log b → MakesAll w b rest c → MakesAll w a (log ++ rest) c
+makes_both w a b c _ rest MakesNone more = more
+makes_both w a b c _ rest (MakesMore {b = next} {log = log} k answer turn turns) more = MakesMore k answer turn (makes_both w next b c log rest turns more)
+
+pub makes_reach : (w : World) (a b : State) (log : List (ℕ × Turn)) → MakesAll w a log b → Reaches w a b
+makes_reach w a b _ MakesNone = Stays
+makes_reach w a b _ (MakesMore {b = next} {log = log} k answer turn turns) = Then (Turns k answer turn) (makes_reach w next b log turns)
+
+record IsSplit (w : World) (a : State) (log rest : List (ℕ × Turn)) (c : State) : Type 0 where
+  middle : State
+  first : MakesAll w a log middle
+  then : MakesAll w middle rest c
+
+split : (w : World) (a c : State) (log rest : List (ℕ × Turn)) → MakesAll w a (log ++ rest) c → IsSplit w a log rest c
+split w a c [] rest makes = record { middle = a; first = MakesNone; then = makes }
+split w a c (t ∷ log) rest (MakesMore {b = b} k answer turn turns) =
+    let others = split w b c log rest turns in
+    record { middle = others.middle; first = MakesMore k answer turn others.first; then = others.then }
+
+idles_to : (w : World) (k : ℕ) (a b : State) (log : List (ℕ × Turn)) → IdlesLast k log → MakesAll w a log b → IdlesTo w k a log b
+idles_to w k a b _ IdleLast (MakesMore _ _ turn MakesNone) = LastTurn turn
+idles_to w k a c _ (IdleLater {log = log} answer going later) (MakesMore {b = b} _ _ turn turns) = MoreTurns answer going turn (idles_to w k b c log later turns)
+
+settles_to : (w : World) (n : ℕ) (a b : State) (log : List (ℕ × Turn)) → SettleLog n log → MakesAll w a log b → SettlesTo w n a log b
+settles_to w _ a _ _ NoTier MakesNone = AllSettled
+settles_to w _ a c _ (OneTier {n = n} {log = log} {rest = rest} tier others) makes =
+    let parts = split w a c log rest makes in
+    TierSettles (idles_to w n a parts.middle log tier parts.first) (settles_to w n parts.middle c rest others parts.then)
+
+-- ---- from the chain to the run
+
+module _ (w : World) (world : IsWorld w) (sessions : ℕ → Option SessionState) (posted : ℕ → Option Posted) (version : ℕ) (u : Setting) where
+  abbrev at : Moment → State
+  at m = state_at sessions posted version m
+
+  pub setting_again : (m n : Moment) → IsSettingOf w (at m) u → IsSettingOf w (at n) u
+  unfolding board_of
+  setting_again m n setting = record { board = setting.board; sets = setting.sets; index = setting.index; bodies = setting.bodies }
+
+  record IsMade (m : Moment) (log : List (ℕ × Turn)) (n : Moment) : Type 0 where
+    makes : MakesAll w (at m) log (at n)
+    safe : IsSafe w (at n)
+
+  all_made : (m n : Moment) (log : List (ℕ × Turn)) → IsSettingOf w (at m) u → IsSafe w (at m) → MakesTurns u m log n → IsMade m log n
+  all_made m n _ setting safe Begins = record { makes = MakesNone; safe = safe }
+  all_made m o _ setting safe (AndTurn {made = made} {n = n} k answer earlier turn) =
+      let before = all_made m n made setting safe earlier in
+      let here = turn_tells w sessions posted version u k answer n o (setting_again m n setting) (λ t there. (before.safe.set_up k t there).made) turn in
+      record {
+        makes = makes_both w (at m) (at n) (at o) made ((k, answer) ∷ []) before.makes (MakesMore k answer here MakesNone);
+        safe = events_keep_safe w (at n) (at o) world before.safe (Then (Turns k answer here) Stays);
+      }
+
+  -- the chain's turns are the run's
+  pub turns_tell : (m n : Moment) (log : List (ℕ × Turn)) → IsSettingOf w (at m) u → IsSafe w (at m) → MakesTurns u m log n → MakesAll w (at m) log (at n)
+  turns_tell m n log setting safe makes = (all_made m n log setting safe makes).makes
+
+  -- where the chain settles, the run does
+  pub settling_tells : (tiers : ℕ) (m n : Moment) (log : List (ℕ × Turn)) (a b : Chain) → IsSettingOf w (at m) u → IsSafe w (at m) → Settles u.board tiers a log b → MakesTurns u m log n → SettlesTo w tiers (at m) log (at n)
+  settling_tells tiers m n log a b setting safe settles makes =
+      settles_to w tiers (at m) (at n) log (settle_log u.board tiers a b log settles) (turns_tell m n log setting safe makes)

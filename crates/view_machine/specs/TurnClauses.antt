@@ -1,0 +1,187 @@
+-- What turns and settlings of the chain promise, as turns of the run or as its stop.
+use Rattle.std.proofs.Common.{◌≡◌, ℕ, ◌⊎◌, Bool, true, List, [], ◌∷◌, ◌++◌, length, map, Option, Some, refl, sym, ap, subst, ◌∙◌, inl, inr}
+use Rattle.std.specs.Prelude.{suc, ◌≤◌, false, None, Result, Ok, Err, slice_get, slice_set, IfOk, OnOk, OnErr, MatchResult}
+use Rattle.view_outside.specs.Faults.{Rose}
+use Rattle.view_outside.specs.Taken.{RisesAtMost}
+use Rattle.std.proofs.Math.Path.{fun_ext}
+use Rattle.mesh_model.specs.Meshes.{MeshLists}
+use Rattle.session_model.specs.Sessions.{SessionState}
+use Rattle.token_words.specs.Changes.{Stays, SetsStay}
+use Rattle.token_words.specs.PlainTokens.{epoch_in, is_pinned_in, is_user_in, is_locker_in}
+use Rattle.token_words.specs.declared.entries.Entry.{Entry}
+use Rattle.tier_model.specs.declared.turns.Turn.{Turn}
+use Rattle.tier_model.specs.Ranks.{Posted}
+use Rattle.tier_model.specs.Tiers.{TierState, body_at}
+use Rattle.tier_model.specs.Answers.{IfGot, IfLost, IfFault, IfChanged, IfEvict, IfKept}
+use Rattle.tier_model.specs.Chains.{has_below}
+use Rattle.tier_model.specs.Settling.{TurnsAt}
+use Rattle.token_words.specs.Sessions.{session_count}
+use Rattle.tier_model.specs.Turns.{Board, begun}
+use Rattle.transfer_step.specs.TurnWords.{board_of, TurnTakes, next_size, misses_in}
+use Rattle.wish_board.specs.Boards.{BoardSeen, board_wish}
+use Rattle.cache_chain.specs.ChainStates.{IsFileBody, FindsChanged}
+use Rattle.cache_chain.specs.Turning.{chain_of, AtLowest, GivesBelow, TakesWishes}
+use Rattle.cache_chain.specs.WordTurns.{words_of}
+use Rattle.cache_chain.specs.TurnRuns.{Setting, Moment, setting_of, moment_of, chain_at, KeepsSets, MakesTurn}
+use Rattle.cache_chain.specs.SettleRuns.{lines_of, LogsSettling, LogsStop}
+use Rattle.cache_chain.specs.declared.parts.TurnLine.{TurnLine}
+use Rattle.run_model.specs.Worlds.{World}
+use Rattle.run_model.specs.States.{State}
+use Rattle.run_model.specs.States.{board_of as wishes_of}
+use Rattle.run_model.specs.Turning.{TurnsTo}
+use Rattle.run_model.specs.Events.{Reaches}
+use Rattle.run_model.specs.Events.{Stays as NoEvent}
+use Rattle.script_model.specs.declared.orders.Order.TheVariants as orders
+use Rattle.run_model.specs.Lines.{DidTurns, SettlesTo, DoesSettle}
+use Rattle.run_model.specs.LineLaws.{does_reaches}
+use Rattle.session_seats.specs.Seats.{SeatsSeen, at_seat, state_of}
+use Rattle.view_machine.specs.Machines.{world_with, state_in, IsMachine}
+use Rattle.view_machine.specs.MachineLaws.{board_is}
+use Rattle.view_machine.specs.Stops.{began, StopsAt, AtEvents, AtTurn}
+use Rattle.view_machine.specs.TurnStates.{state_at, IsSettingOf, turn_tells}
+use Rattle.view_machine.specs.SettleStates.{makes_reach, setting_again, turns_tell, settling_tells}
+
+-- what a chain over plain words tells at a moment
+abbrev pub moment_in : List TierState → ℕ → List Entry → List (ℕ × ℕ) → ℕ → ℕ → Moment
+moment_in tiers patches words misses faults taken = moment_of tiers (words_of patches (epoch_in words) (is_pinned_in words) (is_user_in words) (is_locker_in words) misses) faults taken
+
+-- what stays over turns of a machine
+abbrev pub setting_in : MeshLists → Option (List ℕ) → BoardSeen → Bool → Setting
+setting_in mesh bytes board tells_misses = setting_of (board_of (board_wish board) board.version) true tells_misses mesh.index bytes
+
+-- ---- a run that stops within turns
+
+-- the words are as they were
+stands_as : (sessions : ℕ → Option SessionState) (posted : ℕ → Option Posted) (version : ℕ) (m n : Moment) → Stays m.words.epochs n.words.epochs → SetsStay m.words.users n.words.users
+    → state_at sessions posted version n ≡ record (state_at sessions posted version m) { chain = chain_of n.tiers m.words.epochs }
+stands_as sessions posted version m n epochs users =
+    let with_words : (ℕ → ℕ) → (ℕ → ℕ → Bool) → State = λ es us. record { chain = chain_of n.tiers es; users = us; sessions = sessions; posted = posted; version = version } in
+    ap (λ (es : ℕ → ℕ). with_words es n.words.users) (fun_ext epochs)
+    ∙ ap (λ (us : ℕ → ℕ → Bool). with_words m.words.epochs us) (fun_ext (λ (s : ℕ). fun_ext (users s)))
+
+took_wishes : (w : World) (a : State) (k : ℕ) (t : TierState) (board : Board) (now : List TierState) → board ≡ wishes_of w a → now ≡ slice_set a.chain.tiers k (begun board t) → record a { chain = chain_of now a.chain.epochs } ≡ began w a k t
+unfolding began
+took_wishes w a k t board now same is =
+    ap (λ (ts : List TierState). record a { chain = chain_of ts a.chain.epochs }) (is ∙ ap (λ (b : Board). slice_set a.chain.tiers k (begun b t)) same)
+
+stopped : (w : World) (sessions : ℕ → Option SessionState) (posted : ℕ → Option Posted) (version : ℕ) (u : Setting) (k : ℕ) (a : State) (m n : Moment) → IsSettingOf w (state_at sessions posted version m) u → Reaches w a (state_at sessions posted version m)
+    → (n.tiers ≡ m.tiers) ⊎ TakesWishes u.board k m.tiers n.tiers → Stays m.words.epochs n.words.epochs → SetsStay m.words.users n.words.users → StopsAt w a (state_at sessions posted version n)
+stopped w sessions posted version u k a m n setting reaches tiers epochs users = by_tiers tiers
+  where
+    still : state_at sessions posted version n ≡ record (state_at sessions posted version m) { chain = chain_of n.tiers m.words.epochs }
+    still = stands_as sessions posted version m n epochs users
+
+    by_tiers : (n.tiers ≡ m.tiers) ⊎ TakesWishes u.board k m.tiers n.tiers → StopsAt w a (state_at sessions posted version n)
+    by_tiers (inl same) = AtEvents (subst (Reaches w a) (sym (still ∙ ap (λ (ts : List TierState). record (state_at sessions posted version m) { chain = chain_of ts m.words.epochs }) same)) reaches)
+    by_tiers (inr takes) = subst (StopsAt w a) (sym (still ∙ took_wishes w (state_at sessions posted version m) k takes.before u.board n.tiers setting.board takes.is)) (AtTurn k takes.before reaches takes.was)
+
+-- ---- what a turn's clauses say together
+
+pub turn_made : {E : Type 0} (u : Setting) (k : ℕ) (m n : Moment) (result : Result Turn E) → IfOk result (λ answer. TurnsAt u.board k answer (chain_at m) (chain_at n))
+    → IfOk result (λ answer. IfGot answer (λ p. (s : TierState) → slice_get n.tiers k ≡ Some s → GivesBelow (IsFileBody u.index u.bytes) m.tiers k p (body_at s p)))
+    → IfOk result (λ answer. IfLost answer (λ p. has_below m.tiers k p ≡ false))
+    → IfOk result (λ answer. IfFault answer (λ _. AtLowest m.tiers k (Rose m.faults n.faults)))
+    → IfOk result (λ answer. IfChanged answer (λ p fault. AtLowest m.tiers k (FindsChanged u.index u.bytes p fault)))
+    → (slice_get m.tiers (suc k) ≡ None → (s : TierState) → slice_get m.tiers k ≡ Some s → MatchResult result (λ answer. TurnTakes s.sizes answer m.taken n.taken) (λ _. RisesAtMost m.taken n.taken (next_size s)))
+    → ((t : TierState) → slice_get m.tiers (suc k) ≡ Some t → n.taken ≡ m.taken) → m.faults ≤ n.faults
+    → (k ≡ 0 → u.tells_sets ≡ true → IfOk result (λ answer. IfEvict answer (λ p. session_count (λ s. m.words.users s p) ≡ 0)))
+    → (u.tells_sets ≡ true → IfOk result (λ answer. IfKept answer (λ p uses. uses ≡ session_count (λ s. m.words.users s p))))
+    → (u.tells_misses ≡ true → MatchResult result (λ answer. n.words.misses ≡ m.words.misses ++ misses_in answer) (λ _. n.words.misses ≡ m.words.misses))
+    → KeepsSets u m.words n.words → IfOk result (λ answer. MakesTurn u k answer m n)
+turn_made u k m n (Ok answer) turned got lost fault changed taken upper later free found misses sets = record {
+  turn = turned;
+  got = got;
+  lost = lost;
+  fault = fault;
+  changed = changed;
+  taken = taken;
+  upper = upper;
+  later = later;
+  free = free;
+  found = found;
+  misses = misses;
+  sets = sets;
+}
+turn_made u k m n (Err e) turned got lost fault changed taken upper later free found misses sets = tt
+
+pub if_ok_then : {T E : Type 0} (result : Result T E) {P Q : T → Type 0} → ((x : T) → P x → Q x) → IfOk result P → IfOk result Q
+if_ok_then (Ok x) then is = then x is
+if_ok_then (Err e) then is = tt
+
+pub if_err_both : {T E P Q R : Type 0} (result : Result T E) → (P → Q → R) → OnErr result P → OnErr result Q → OnErr result R
+if_err_both (Ok x) then p q = tt
+if_err_both (Err e) then p q = then p q
+
+-- ---- a log's lines
+
+-- a line of the log as a turn with its tier's number
+abbrev pub turn_in : TurnLine → ℕ × Turn
+turn_in line = (line.tier, line.turn)
+
+pub logged_turns : (turns : List (ℕ × Turn)) → map turn_in (map (λ (t : ℕ × Turn). record { tier = t.0; turn = t.1 }) turns) ≡ turns
+logged_turns [] = refl
+logged_turns (t ∷ ts) = ap (λ (rest : List (ℕ × Turn)). t ∷ rest) (logged_turns ts)
+
+-- the tiers settled, and each turn was logged
+pub record LogsLine (w : World) (a : State) (old new : List TurnLine) (b : State) : Type 0 where
+  pub turns : List (ℕ × Turn)
+  pub log : new ≡ old ++ lines_of turns
+  pub settles : SettlesTo w (length w.budgets) a turns b
+
+settles_reach : (w : World) (a : State) (old new : List TurnLine) (b : State) → LogsLine w a old new b → Reaches w a b
+settles_reach w a old new b logs = does_reaches w a b orders.Settle (DidTurns logs.turns) (DoesSettle logs.settles)
+
+pub settles_either : {E : Type 0} (w : World) (a : State) (old new : List TurnLine) (b : State) (result : Result (Unit {0}) E) → OnOk result (LogsLine w a old new b) → OnErr result (StopsAt w a b) → StopsAt w a b
+settles_either w a old new b (Ok x) logs stops = AtEvents (settles_reach w a old new b logs)
+settles_either w a old new b (Err e) logs stops = stops
+
+pub if_ok_log : {E P : Type 0} (result : Result (Unit {0}) E) (Q : Type 0) → (P → Q) → IfOk result (λ _. P) → OnOk result Q
+if_ok_log (Ok x) Q then p = then p
+if_ok_log (Err e) Q then p = tt
+
+-- ---- turns and settlings of a machine
+
+module _ (mesh : MeshLists) (bytes : Option (List ℕ)) (tiers : List TierState) (words : List Entry) (seats : SeatsSeen) (board : BoardSeen) (is : IsMachine mesh bytes tiers words seats board) (tells_misses : Bool) (patches : ℕ) (misses : List (ℕ × ℕ)) (faults taken : ℕ) where
+  abbrev w : World
+  w = world_with mesh bytes tiers
+
+  abbrev u : Setting
+  u = setting_in mesh bytes board tells_misses
+
+  abbrev first : Moment
+  first = moment_in tiers patches words misses faults taken
+
+  setting_is : IsSettingOf w (state_in tiers words seats board) u
+  setting_is = record { board = sym (board_is w tiers words seats board is.on_board); sets = refl; index = refl; bodies = refl }
+
+  module _ (now : List TierState) (patches_now : ℕ) (words_now : List Entry) (misses_now : List (ℕ × ℕ)) (faults_now taken_now : ℕ) where
+    abbrev last : Moment
+    last = moment_in now patches_now words_now misses_now faults_now taken_now
+
+    -- the tier's turn is one of the run
+    pub turn_is : (k : ℕ) (answer : Turn) → MakesTurn u k answer first last → TurnsTo w k (state_in tiers words seats board) answer (state_in now words_now seats board)
+    unfolding state_of
+    turn_is k answer turn = turn_tells w (at_seat seats.sessions) (at_seat board.views) board.version u k answer first last setting_is (λ t at. (is.safe.set_up k t at).made) turn
+
+    pub turn_stops : (k : ℕ) → TakesWishes u.board k tiers now → Stays (epoch_in words) (epoch_in words_now) → SetsStay (is_user_in words) (is_user_in words_now) → StopsAt w (state_in tiers words seats board) (state_in now words_now seats board)
+    unfolding state_of
+    turn_stops k takes epochs users = stopped w (at_seat seats.sessions) (at_seat board.views) board.version u k (state_in tiers words seats board) first last setting_is NoEvent (inr takes) epochs users
+
+    -- the settling is one of the run
+    pub settling_is : (old new : List TurnLine) (logs : LogsSettling u (length tiers) first last old new) → SettlesTo w (length w.budgets) (state_in tiers words seats board) logs.made (state_in now words_now seats board)
+    unfolding state_of
+    settling_is old new logs =
+        subst (λ (n : ℕ). SettlesTo w n (state_in tiers words seats board) logs.made (state_in now words_now seats board)) is.safe.many
+        (settling_tells w is.world (at_seat seats.sessions) (at_seat board.views) board.version u (length tiers) first last logs.made (chain_of tiers (epoch_in words)) (chain_of now (epoch_in words_now)) setting_is is.safe logs.settles logs.turns)
+
+    pub settling_stops : (old new : List TurnLine) → LogsStop u first last old new → StopsAt w (state_in tiers words seats board) (state_in now words_now seats board)
+    unfolding state_of
+    settling_stops old new logs =
+        let sessions = at_seat seats.sessions in
+        let posted = at_seat board.views in
+        let a = state_in tiers words seats board in
+        let stops = logs.stops in
+        let makes = turns_tell w is.world sessions posted board.version u first stops.last logs.made setting_is is.safe stops.turns in
+        stopped w sessions posted board.version u stops.tier a stops.last last
+        (setting_again w is.world sessions posted board.version u first stops.last setting_is)
+        (makes_reach w a (state_at sessions posted board.version stops.last) logs.made makes) stops.refused.tiers stops.refused.epochs (stops.refused.sets.users refl)

@@ -1,0 +1,11 @@
+//! The viewer on one thread: a machine that does what the lines of a script order, and prints what they did.
+//!
+//! `docs/MODEL.md` tells runs in prose, and `docs/TEXTS.md` the texts.
+#![tactic(auto)]
+
+mod machines;
+mod refusals;
+
+pub use cache_chain::StartRefusal;
+pub use machines::Machine;
+pub use refusals::RunRefusal;

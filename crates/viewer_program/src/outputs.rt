@@ -1,0 +1,126 @@
+//! What a command writes of a file, or why there is nothing.
+
+ghost use Rattle.std.specs.Prelude.{◌≡◌, Ok, IfOk, IfErr, IfSome, MatchResult, OnErr};
+ghost use Rattle.file_model.specs.Lists.{FileLists};
+ghost use Rattle.file_model.specs.Reading.{file_in};
+ghost use Rattle.view_outside.specs.Files.{HasFile, file_bytes};
+ghost use Rattle.view_outside.specs.OnlyRead.{OnlyRead};
+ghost use Rattle.accepted_mesh.specs.MeshView.{IsMeshOf};
+ghost use Rattle.dag_check.specs.Checks.{Checks};
+ghost use Rattle.dag_check.specs.declared.refusals.CheckRefusal.TheVariants as checks;
+ghost use Rattle.text_model.specs.declared.statuses.Status.TheVariants as statuses;
+ghost use Rattle.viewer_program.specs.Commands.{IsKnown};
+ghost use Rattle.viewer_program.specs.Answers.{IsTextOf, IsOfAccepted, IsTextOfKind};
+ghost use Rattle.viewer_program.specs.Endings.{StopsAt, CanStop, IsChange};
+ghost use Rattle.viewer_program.specs.Outputs.{output_text, IsWritable, text_output, GivesOutput};
+
+use crate::commands::Command;
+use crate::converts::convert_output;
+use crate::refusals::{status_of_check, status_of_load};
+use body_loads::LoadRefusal;
+use dag_check::{CheckRefusal, Mesh, check};
+use patch_file::{FileParts, read_index};
+use std::alloc::Global;
+use still_texts::{accepted_text, base_text, full_text};
+use text_model::Status;
+use view_outside::Store;
+
+/// What a command writes.
+#[derive(Drop)]
+pub enum Output {
+    /// Lines of text.
+    Text(Vec<u8>),
+    /// A patch file, of these parts.
+    File(FileParts),
+}
+
+// The mesh of the file, each body of which is read once.
+fn mesh_of<S: Store>(alloc: Global, store: &mut S, file: u32) -> Result<Mesh, CheckRefusal>
+    requires { HasFile (S.files store.old) file }
+    ensures told { IfSome (file_bytes (S.files store.old) file) (λ bytes. Checks bytes result) }
+    ensures store { OnlyRead checks.ReadFault (S.files store.old) (S.files store.new)
+        (S.faults store.old) (S.faults store.new) result }
+{
+    let index = read_index(alloc, store, file)?;
+    check(alloc, index, store, file)
+}
+
+// A text that was made, or the status that tells why there is none.
+fn text_output(made: Result<Vec<u8>, LoadRefusal>) -> Result<Output, Status>
+    ensures { result ≡ text_output made }
+{
+    match made {
+        Ok(text) => Ok(Output::Text(text)),
+        Err(refusal) => Err(status_of_load(refusal)),
+    }
+}
+
+// The accepted line.
+fn line_output(alloc: Global, mesh: &Mesh) -> Result<Output, Status>
+    ensures told { (lists : FileLists) → IsMeshOf lists mesh.now
+        → GivesOutput Command.Check lists mesh.now.lists.root result }
+    ensures kind { IfOk result (λ output. IsTextOfKind Command.Check (output_text output)) }
+    ensures writable { IfOk result IsWritable }
+    ensures stop { OnErr result (result ≡ Err statuses.Memory) }
+{
+    match accepted_text(alloc, mesh) {
+        Ok(text) => Ok(Output::Text(text)),
+        Err(_) => Err(Status::Memory),
+    }
+}
+
+// What the command writes of the mesh. Bodies that it writes are read again.
+fn output_of<S: Store>(
+    alloc: Global,
+    command: Command,
+    mesh: &Mesh,
+    store: &mut S,
+    file: u32,
+) -> Result<Output, Status>
+    requires known { IsKnown command }
+    requires file { HasFile (S.files store.old) file }
+    ensures told { IfSome (file_bytes (S.files store.old) file)
+        (λ bytes.
+        (lists : FileLists) → file_in bytes ≡ Ok lists → IsMeshOf lists mesh.now
+        → GivesOutput command lists mesh.now.lists.root result) }
+    ensures kind { IfOk result (λ output. IsTextOfKind command (output_text output)) }
+    ensures writable { IfOk result IsWritable }
+    ensures stop { IfErr result (CanStop command) }
+    ensures changed { IfErr result IsChange }
+    ensures store { OnlyRead statuses.ReadFault (S.files store.old) (S.files store.new)
+        (S.faults store.old) (S.faults store.new) result }
+{
+    match command {
+        Command::Base => text_output(base_text(alloc, mesh, store, file)),
+        Command::Check => line_output(alloc, mesh),
+        Command::Full(view) => text_output(full_text(alloc, mesh, &view, store, file)),
+        Command::Convert(version) => convert_output(alloc, version, mesh, store, file),
+    }
+}
+
+/// What the command writes of the file, or the status that stops it. The file is checked first.
+pub fn command_output<S: Store>(
+    alloc: Global,
+    command: Command,
+    store: &mut S,
+    file: u32,
+) -> Result<Output, Status>
+    requires known { IsKnown command }
+    requires file { HasFile (S.files store.old) file }
+    ensures told { IfSome (file_bytes (S.files store.old) file)
+        (λ bytes.
+        MatchResult result
+        (λ output. IsOfAccepted (IsTextOf command) bytes (output_text output))
+        (StopsAt command bytes)) }
+    ensures kind { IfOk result (λ output. IsTextOfKind command (output_text output)) }
+    ensures writable { IfOk result IsWritable }
+    ensures stop { IfErr result (CanStop command) }
+    ensures changed { IfErr result IsChange }
+    ensures store { OnlyRead statuses.ReadFault (S.files store.old) (S.files store.new)
+        (S.faults store.old) (S.faults store.new) result }
+{
+    match mesh_of(alloc, store, file) {
+        Ok(mesh) => output_of(alloc, command, &mesh, store, file),
+        Err(refusal) => Err(status_of_check(refusal)),
+    }
+}
