@@ -111,12 +111,19 @@ fn two_patches_come_at_once(rt: HostRuntime) -> Result<(), Fail> {
     Ok(())
 }
 
-// The tier below gives up the patch that is to come, for one that is wished more.
-#[test]
-fn a_fetch_is_lost(rt: HostRuntime) -> Result<(), Fail> {
-    let alloc = rt.alloc();
-    let mut store = strip_store(alloc)?;
-    let index = read_index(alloc, &mut store, 0)?;
+/// The upper tier is to fetch patch 4, which the lower one gives up for patches that are wished more.
+fn loses_a_fetch<B: Supply>(
+    rt: &impl Abort,
+    alloc: Global,
+    index: &Index,
+    upper: &mut Tier,
+    lower: &mut Tier,
+    below: &mut B,
+) -> Result<(), Fail>
+    requires upper { sizes_of index.now ≡ upper.old.state.sizes }
+    requires lower { sizes_of index.now ≡ lower.old.state.sizes }
+    requires supply { B.sizes (B.place below.old) ≡ lower.old.state.sizes }
+{
     let first = Listed {
         wishes: [0, 0, 0, 0, 5, 5, 0],
         version: 1,
@@ -125,6 +132,30 @@ fn a_fetch_is_lost(rt: HostRuntime) -> Result<(), Fail> {
         wishes: [0, 0, 9, 9, 5, 5, 0],
         version: 2,
     };
+    let comes = [Turn::Reserve(4), Turn::Got(4), Turn::Commit(4)];
+    expect_turns(rt, alloc, index, lower, below, &first, &comes)?;
+    let mut held = TierSupply { tier: lower };
+    expect_turns(
+        rt,
+        alloc,
+        index,
+        upper,
+        &mut held,
+        &first,
+        &[Turn::Reserve(4)],
+    )?;
+    expect_turns(rt, alloc, index, lower, below, &second, &[Turn::Evict(4)])?;
+    let mut left = TierSupply { tier: lower };
+    let loses = [Turn::Lost(4), Turn::Idle];
+    expect_turns(rt, alloc, index, upper, &mut left, &second, &loses)
+}
+
+// The tier below gives up the patch that is to come, for one that is wished more.
+#[test]
+fn a_fetch_is_lost(rt: HostRuntime) -> Result<(), Fail> {
+    let alloc = rt.alloc();
+    let mut store = strip_store(alloc)?;
+    let index = read_index(alloc, &mut store, 0)?;
     let mut upper = new_tier(alloc, &index, 120, 1)?;
     let mut lower = new_tier(alloc, &index, 60, 1)?;
     let mut below = StoreSupply {
@@ -132,36 +163,5 @@ fn a_fetch_is_lost(rt: HostRuntime) -> Result<(), Fail> {
         store: &mut store,
         file: 0,
     };
-    let comes = [Turn::Reserve(4), Turn::Got(4), Turn::Commit(4)];
-    expect_turns(&rt, alloc, &index, &mut lower, &mut below, &first, &comes)?;
-    let reserves = [Turn::Reserve(4)];
-    expect_turns(
-        &rt,
-        alloc,
-        &index,
-        &mut upper,
-        &mut TierSupply { tier: &lower },
-        &first,
-        &reserves,
-    )?;
-    expect_turns(
-        &rt,
-        alloc,
-        &index,
-        &mut lower,
-        &mut below,
-        &second,
-        &[Turn::Evict(4)],
-    )?;
-    let loses = [Turn::Lost(4), Turn::Idle];
-    expect_turns(
-        &rt,
-        alloc,
-        &index,
-        &mut upper,
-        &mut TierSupply { tier: &lower },
-        &second,
-        &loses,
-    )?;
-    Ok(())
+    loses_a_fetch(&rt, alloc, &index, &mut upper, &mut lower, &mut below)
 }
