@@ -29,7 +29,7 @@ use Rattle.bench_laws.specs.SettledFrames.{IsFrameLine, frame_line, shows_wanted
 use Rattle.strip_laws.specs.Kinds.{each_first}
 use Rattle.bench_laws.specs.BenchRuns.{bench_file, bench_view, bench_orders, bench_dids, IsBenchWorld, IsBenchRun, IsFinestFrame, ComesTo}
 use Rattle.bench_laws.specs.StripViews.{strip_mesh, bench_rules, all_are_wanted, no_others}
-use Rattle.bench_laws.specs.BenchOpening.{open_line, view_line, bench_world, is_world, is_told, safe, kept, ready, show}
+use Rattle.bench_laws.specs.BenchOpening.{open_line, view_line, bench_world, is_world, is_told, safe, kept, bases, ready, show}
 use Rattle.bench_laws.specs.BenchTurns.{so_many_turns}
 
 -- ---- the finest frame
@@ -67,7 +67,7 @@ module _ (c : ℕ) (some : 2 ≤ c) (few : c ≤ 16384) where
   finest_frame levels frame shown =
       let set = (round_of (bench_rules c levels) shown.shows.epochs).set in
       let fields = fields_of (strip_patches c) in
-      let same = finest set (λ v below. shown.whole v (all_are_wanted c some few levels v below)) (λ v is. no_others c some few levels v (shown.cut v is)) in
+      let same = finest set (λ v below. shown.all_joined v (all_are_wanted c some few levels v below)) (λ v is. no_others c some few levels v (shown.joined v is)) in
       let cut : frame.cut ≡ range_with_len 0 (2 * c) = shown.shows.shows.nodes ∙ ap (λ (in_set : ℕ → Bool). nodes_where (length (strip_nodes c)) in_set) same ∙ inner_nodes in
       let triangles : frame.triangles ≡ frame_of_set (bench_file c) (all_inner c) =
       shown.shows.shows.triangles ∙ ap (λ (in_set : ℕ → Bool). frame_triangles in_set fields (bench_file c).bodies) same in
@@ -140,6 +140,7 @@ over_strip c some few levels mesh first last dids opens runs never =
     let world = is_world c some few levels mesh in
     let is_safe = safe c some few levels mesh first lines.opened lines.viewed opens lines.opens lines.views in
     let is_kept = kept c some few levels mesh first lines.opened lines.viewed opens lines.opens lines.views in
+    let are_kept = bases c some few levels mesh first lines.opened lines.viewed opens lines.opens lines.views in
     let is_ready = ready c some few levels mesh first lines.opened lines.viewed opens lines.opens lines.views in
     let can_show = show c some few levels mesh first lines.opened lines.viewed opens lines.opens lines.views in
     record {
@@ -148,7 +149,7 @@ over_strip c some few levels mesh first last dids opens runs never =
       are = lines.are;
       turns = so_many_turns c some few levels mesh first lines.opened lines.viewed opens lines.opens lines.views lines.settled lines.log lines.settles well;
       finest = finest_frame c some few levels lines.frame
-          (shows_wanted w world lines.viewed is_safe is_kept is_ready 1 (bench_view c) can_show (bench_file c).bodies (is_told c some few levels mesh) lines.settled lines.log lines.settles well lines.frame lines.shows);
+          (shows_wanted w world lines.viewed is_safe is_kept are_kept is_ready 1 (bench_view c) can_show (bench_file c).bodies (is_told c some few levels mesh) lines.settled lines.log lines.settles well lines.frame lines.shows);
     }
 
 abbrev world_with : IndexLists → ℕ → List ℕ → Option (List BodyLists) → List ℕ → ℕ → World

@@ -29,7 +29,7 @@ use Rattle.run_model.specs.KeptLaws.{opening_kept, does_kept}
 use Rattle.run_model.specs.Lines.{Did, DidOpen, DidView, Does, DoesOpen, DoesView}
 use Rattle.run_model.specs.RunTexts.{IsOpening}
 use Rattle.run_model.specs.PrintedFrames.{IsTold}
-use Rattle.bench_laws.specs.Settlings.{passed_or_used, IsReadyToSettle, IsReadyToShow}
+use Rattle.bench_laws.specs.Settlings.{passed_or_used, KeepsBases, IsReadyToSettle, IsReadyToShow}
 use Rattle.bench_laws.specs.BenchRuns.{bench_file, bench_budget, bench_view}
 use Rattle.bench_laws.specs.StripViews.{strip_mesh, fits_all}
 
@@ -182,9 +182,11 @@ module _ (c : ℕ) (some : 2 ≤ c) (few : c ≤ 16384) (levels : List ℕ) (mes
         let is = ap (λ (chain : Chain). chain.epochs p) chain_is in
         subst (λ (n : ℕ). n + 2 < LAST_EPOCH) (sym is) (low_epoch (is_marked (base_marks w.mesh.index.fields) p))
 
+    pub bases : KeepsBases d
+    bases = λ k t at. (calm k t at).0
+
     pub ready : IsReadyToSettle w d
     ready = record {
-      keeps_base = λ k t at. (calm k t at).0;
       room = λ k t at.
           let set_up = safe.set_up k t at in
           let budget = one_budget (bench_budget c) k t.budget set_up.budget in

@@ -40,7 +40,7 @@ use Rattle.bench_laws.specs.Settlings.{NeverFails, passed_or_used}
 use Rattle.bench_laws.specs.SettledFrames.{are_ready, settled, is_posted}
 use Rattle.bench_laws.specs.BenchRuns.{bench_budget, bench_view, bench_turns}
 use Rattle.bench_laws.specs.StripViews.{strip_mesh, bench_rules, is_of_wanted}
-use Rattle.bench_laws.specs.BenchOpening.{bench_world, is_world, safe, kept, ready, show, tiers_are, low}
+use Rattle.bench_laws.specs.BenchOpening.{bench_world, is_world, safe, kept, bases, ready, show, tiers_are, low}
 
 -- ---- how many patches are of the base
 
@@ -150,7 +150,7 @@ module _ (c : ℕ) (some : 2 ≤ c) (few : c ≤ 16384) (levels : List ℕ) (mes
       let many = now_count in
       let found = field_at p (omega arith) in
       let of_wanted = is_of_wanted c some few levels p found.0 found.1 (sym (ap (λ (marks : List Bool). is_marked marks p) now_base) ∙ free) in
-      let wished = wanted_is_wished (bench_rules c levels) board p (is_posted w (is_world c some few levels mesh) d (safe c some few levels mesh first b d opens begins sees) (kept c some few levels mesh first b d opens begins sees) (ready c some few levels mesh first b d opens begins sees) 1 (bench_view c) (show c some few levels mesh first b d opens begins sees)) of_wanted in
+      let wished = wanted_is_wished (bench_rules c levels) board p (is_posted w (is_world c some few levels mesh) d (safe c some few levels mesh first b d opens begins sees) (kept c some few levels mesh first b d opens begins sees) (bases c some few levels mesh first b d opens begins sees) (ready c some few levels mesh first b d opens begins sees) 1 (bench_view c) (show c some few levels mesh first b d opens begins sees)) of_wanted in
       let same = begun_wishes board top ((kept c some few levels mesh first b d opens begins sees).wishes.wishes 0 top top_at) p (let places = begun_places board top in let alike = ap (λ (sizes : List ℕ). length sizes) places.sizes in omega arith) in
       subst (λ (n : ℕ). 0 < n) (sym same) wished
 
@@ -174,10 +174,11 @@ module _ (c : ℕ) (some : 2 ≤ c) (few : c ≤ 16384) (levels : List ℕ) (mes
       let world = is_world c some few levels mesh in
       let is_safe = safe c some few levels mesh first b d opens begins sees in
       let is_kept = kept c some few levels mesh first b d opens begins sees in
+      let are_kept = bases c some few levels mesh first b d opens begins sees in
       let is_ready = ready c some few levels mesh first b d opens begins sees in
       let used = passed_or_used d in
-      let are = are_ready w world d is_safe is_kept is_ready in
-      let after = settled w world d is_safe is_kept is_ready e log settles never in
+      let are = are_ready w world d is_safe is_kept are_kept is_ready in
+      let after = settled w world d is_safe is_kept are_kept is_ready e log settles never in
       let straight = straight-begins board 0 d.chain (used 0) top (are.each 0 top (omega (arith, one_there)) top_at) (λ p within. low c some few levels mesh first b d opens begins sees p) needed in
       let turns = one_tier board used d.chain e.chain log top after.chain top_at after.well straight in
       let beside = turns_beside_base (told_at d.chain 0) now begins_with_base in

@@ -1,5 +1,6 @@
 pub mod FinishedTries
 pub mod Settlings
+pub mod BaseKept
 pub mod SettlingRuns
 pub mod SettledFrames
 pub mod BenchRuns

@@ -5,6 +5,7 @@ use Rattle.std.specs.Option.{option_map_or}
 use Rattle.file_model.specs.Lists.{BodyLists}
 use Rattle.round_model.specs.Rounds.{has, round_of}
 use Rattle.round_model.specs.Views.{ViewSeen, view_rules}
+use Rattle.round_laws.specs.Among.{is_among}
 use Rattle.round_laws.specs.Cuts.{IsRootOrWanted}
 use Rattle.script_model.specs.declared.orders.Order.TheVariants as orders
 use Rattle.session_model.specs.Sessions.{SessionState}
@@ -47,10 +48,13 @@ was_passed a k p = option_map_or (λ (t : TierState). is_marked t.passed p) (sli
 abbrev pub passed_or_used : State → ℕ → ℕ → Bool
 passed_or_used a k p = was_passed a k p || in_use a k p
 
--- each tier has room for all that is wished, passed over or in use beside its pins, nothing is aside, base patches
--- are where they are to stay, and no epoch is among the last three
+-- in each tier the pinned patches are base patches, and no other base patch is held or comes
+abbrev pub KeepsBases : State → Type 0
+KeepsBases a = (k : ℕ) (t : TierState) → slice_get a.chain.tiers k ≡ Some t → KeepsBase t
+
+-- each tier has room for all that is wished, passed over or in use beside its pins, nothing is aside, and no epoch is
+-- among the last three
 pub record IsReadyToSettle (w : World) (a : State) : Type 0 where
-  pub keeps_base : (k : ℕ) (t : TierState) → slice_get a.chain.tiers k ≡ Some t → KeepsBase t
   pub room : (k : ℕ) (t : TierState) → slice_get a.chain.tiers k ≡ Some t → needed_bytes t (board_of w a).wish (passed_or_used a k) ≤ t.budget
   pub none_aside : (k : ℕ) (t : TierState) → slice_get a.chain.tiers k ≡ Some t → (p : ℕ) → is_marked t.aside p ≡ false
   pub low : (p : ℕ) → p < patch_count w → a.chain.epochs p + 2 < LAST_EPOCH
@@ -68,5 +72,7 @@ pub record IsReadyToShow (w : World) (a : State) (i : ℕ) (view : ViewSeen) : T
 -- sinks, that the view wants
 pub record ShowsWanted (w : World) (bodies : List BodyLists) (view : ViewSeen) (frame : Frame) : Type 0 where
   pub shows : ShowsRound (told_file w bodies) (view_rules view w.mesh) frame
-  pub cut : (v : ℕ) → has (round_of (view_rules view w.mesh) shows.epochs).set v ≡ true → IsRootOrWanted (view_rules view w.mesh) v
-  pub whole : (v : ℕ) → IsRootOrWanted (view_rules view w.mesh) v → has (round_of (view_rules view w.mesh) shows.epochs).set v ≡ true
+  pub joined : (v : ℕ) → has (round_of (view_rules view w.mesh) shows.epochs).set v ≡ true → IsRootOrWanted (view_rules view w.mesh) v
+  pub all_joined : (v : ℕ) → IsRootOrWanted (view_rules view w.mesh) v → has (round_of (view_rules view w.mesh) shows.epochs).set v ≡ true
+  pub listed : (v : ℕ) → is_among frame.cut v ≡ true → IsRootOrWanted (view_rules view w.mesh) v
+  pub all_listed : (v : ℕ) → IsRootOrWanted (view_rules view w.mesh) v → is_among frame.cut v ≡ true

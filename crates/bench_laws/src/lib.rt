@@ -10,6 +10,7 @@ ghost use Rattle.file_model.specs.Lists.{BodyLists};
 ghost use Rattle.mesh_model.specs.Meshes.{MeshLists, IsMesh};
 ghost use Rattle.round_model.specs.Views.{ViewSeen};
 ghost use Rattle.round_laws.specs.Cuts.{IsRootOrWanted};
+ghost use Rattle.script_model.specs.declared.orders.Order.{Order};
 ghost use Rattle.session_model.specs.Sessions.{SessionState};
 ghost use Rattle.session_model.specs.SessionStates.{IsSessionState, unprinted_round};
 ghost use Rattle.session_model.specs.DoneRounds.{HasDone};
@@ -20,13 +21,11 @@ ghost use Rattle.text_model.specs.FrameText.{Frame};
 ghost use Rattle.token_words.specs.Sessions.{session_count};
 ghost use Rattle.tier_model.specs.declared.turns.Turn.{Turn};
 ghost use Rattle.detail_laws.specs.Wanted.{FitsWanted, AreAnsweredBy};
-ghost use Rattle.run_model.specs.Worlds.{World, IsWorld};
+ghost use Rattle.run_model.specs.Worlds.{World, IsWorld, HoldsBase};
 ghost use Rattle.run_model.specs.States.{State};
-ghost use Rattle.run_model.specs.Safe.{IsSafe};
 ghost use Rattle.run_model.specs.Sound.{IsSound};
-ghost use Rattle.run_model.specs.Kept.{IsKept};
-ghost use Rattle.run_model.specs.Lines.{Did, SettlesTo};
-ghost use Rattle.run_model.specs.RunTexts.{turn_outcomes};
+ghost use Rattle.run_model.specs.Lines.{Did, SettlesTo, Runs};
+ghost use Rattle.run_model.specs.RunTexts.{turn_outcomes, IsOpening};
 ghost use Rattle.run_model.specs.PrintedFrames.{IsTold};
 ghost use Rattle.bench_laws.specs.Settlings.{SettlesBy, PrintsBy, NeverFails, IsReadyToSettle, IsReadyToShow, ShowsWanted};
 ghost use Rattle.bench_laws.specs.SettlingRuns.{HasSettled};
@@ -53,12 +52,13 @@ pub fn a_settling_in_a_run_is_one_of_its_chain()
         → HasSettled w used tiers a b log }
 {}
 
-/// Where the tiers have room for all that is wished, passed over or in use, a settling over a store that never
-/// fails and the next frame of a session with a view that fits show exactly the root and the nodes, other than
-/// root and sinks, that the view wants.
+/// Behind the lines of a run, where the tiers have room for all that is wished, passed over or in use: a settling
+/// over a store that never fails, and then the next frame of a session with a view that fits, whose cut is exactly
+/// the root and the nodes, other than root and sinks, that the view wants.
 pub fn a_frame_behind_a_settling_shows_what_is_wanted()
-    ensures { (w : World) (bodies : List BodyLists) → IsTold w bodies → IsWorld w → (a b c : State)
-        → IsSafe w a → IsKept w a → IsReadyToSettle w a → (i : ℕ) (view : ViewSeen)
+    ensures { (w : World) (bodies : List BodyLists) → IsTold w bodies → IsWorld w → HoldsBase w
+        → (first a b c : State) (lines : List Order) (dids : List Did) → IsOpening w first
+        → Runs w first lines dids a → IsReadyToSettle w a → (i : ℕ) (view : ViewSeen)
         → IsReadyToShow w a i view → (log : List (ℕ × Turn)) → SettlesBy w a log b
         → NeverFails (turn_outcomes w log) → (frame : Frame) → PrintsBy w b i frame c
         → ShowsWanted w bodies view frame }
