@@ -1,20 +1,23 @@
 -- What every bench run comes to.
 use Rattle.std.proofs.Common.{◌≡◌, ℕ, zero, suc, ◌+◌, ◌*◌, ◌<◌, ◌≤◌, Bool, true, false, List, [], ◌∷◌, length, Option, refl, sym, ap, subst, ◌∙◌, arith, inl, inr}
+use Rattle.std.specs.Prelude.{slice_get}
 use Rattle.std.proofs.Math.Path.{fun_ext}
 use Rattle.std.specs.List.{range_with_len}
 use Rattle.std.proofs.lemmas.Bool.{cases_lt, cond-true, cond-false, lt-ltb, le-ltb, false_from_ne_true}
 use Rattle.std.proofs.lemmas.List.FromFn.{length-range_with_len}
 use Rattle.grid_vertex.specs.declared.triangles.Triangle.{Triangle}
 use Rattle.file_model.specs.Lists.{IndexLists, BodyLists}
-use Rattle.mesh_model.specs.Graph.{numbers_from, nodes_where}
-use Rattle.mesh_model.specs.Meshes.{IsMesh}
+use Rattle.mesh_model.specs.Graph.{numbers_from, nodes_where, roots}
+use Rattle.mesh_model.specs.Meshes.{MeshLists, IsMesh}
 use Rattle.mesh_model.specs.Nets.{HasOpenPairs}
 use Rattle.mesh_model.specs.Frames.{frame_patches, frame_triangles}
 use Rattle.frame_laws.specs.Frames.{frame_of_set}
+use Rattle.round_laws.specs.Ascending.{first_is}
 use Rattle.round_model.specs.Rounds.{has, round_of}
 use Rattle.round_model.specs.Views.{rules_of}
 use Rattle.script_model.specs.declared.orders.Order.TheVariants as orders
 use Rattle.strip_laws.specs.Strip.{strip_nodes, strip_patches, fields_of}
+use Rattle.strip_laws.specs.StripGraph.{one_root}
 use Rattle.strip_laws.specs.StripNodes.{node_count}
 use Rattle.strip_laws.specs.StripFrames.{all_inner, inner_is_cut, inner_patch_count, inner_triangle_count}
 use Rattle.strip_laws.specs.StripBorder.{frame_has_open}
@@ -27,7 +30,7 @@ use Rattle.run_model.specs.RunTexts.{StoreOutcome, GaveBody, store_outcomes, tur
 use Rattle.bench_laws.specs.Settlings.{NeverFails, ShowsWanted}
 use Rattle.bench_laws.specs.SettledFrames.{IsFrameLine, frame_line, shows_wanted}
 use Rattle.strip_laws.specs.Kinds.{each_first}
-use Rattle.bench_laws.specs.BenchRuns.{bench_file, bench_view, bench_orders, bench_dids, IsBenchWorld, IsBenchRun, IsFinestFrame, ComesTo}
+use Rattle.bench_laws.specs.BenchRuns.{bench_file, bench_view, first_orders, bench_orders, bench_dids, IsBenchWorld, IsBenchRun, IsFinestFrame, ComesTo, IsReadyToBench}
 use Rattle.bench_laws.specs.StripViews.{strip_mesh, bench_rules, all_are_wanted, no_others}
 use Rattle.bench_laws.specs.BenchOpening.{open_line, view_line, bench_world, is_world, is_told, safe, kept, bases, ready, show}
 use Rattle.bench_laws.specs.BenchTurns.{so_many_turns}
@@ -152,18 +155,41 @@ over_strip c some few levels mesh first last dids opens runs never =
           (shows_wanted w world lines.viewed is_safe is_kept are_kept is_ready 1 (bench_view c) can_show (bench_file c).bodies (is_told c some few levels mesh) lines.settled lines.log lines.settles well lines.frame lines.shows);
     }
 
+ready_over_strip : (c : ℕ) → 2 ≤ c → c ≤ 16384 → (levels : List ℕ) → IsMesh (strip_mesh c levels) → (first viewed : State) → IsOpening (bench_world c levels) first → Runs (bench_world c levels) first (first_orders c) (DidOpen 1 ∷ (DidView 1 ∷ [])) viewed → IsReadyToBench c (bench_world c levels) viewed
+ready_over_strip c some few levels mesh first viewed opens (OneLine {b = b} begins (OneLine sees NoLine)) = record {
+  settle = ready c some few levels mesh first b viewed opens begins sees;
+  show = show c some few levels mesh first b viewed opens begins sees;
+}
+
 abbrev world_with : IndexLists → ℕ → List ℕ → Option (List BodyLists) → List ℕ → ℕ → World
 world_with index root levels bodies budgets width = record { mesh = record { index = index; root = root; levels = levels }; bodies = bodies; budgets = budgets; width = width }
 
-world_is : (c : ℕ) (w : World) → IsBenchWorld c w → w ≡ bench_world c w.mesh.levels
-world_is c w is = λ t. world_with (is.index t) (is.root t) w.mesh.levels (is.bodies t) (is.budgets t) (is.width t)
+-- the strip has one root
+root_is : (c : ℕ) → 2 ≤ c → (mesh : MeshLists) → IsMesh mesh → mesh.index ≡ (bench_file c).index → mesh.root ≡ 0
+root_is c some mesh accepted same =
+    let here = ap (λ (index : IndexLists). roots (length index.nodes) index.fields) same in
+    first_is mesh.root 0 (ap (λ (vs : List ℕ). slice_get vs 0) (sym accepted.graph.one_root ∙ here ∙ one_root (length (strip_nodes c)) c (omega arith) (node_count c (omega arith))))
+
+world_is : (c : ℕ) → 2 ≤ c → (w : World) → IsBenchWorld c w → w ≡ bench_world c w.mesh.levels
+world_is c some w is =
+    let root = root_is c some w.mesh is.mesh is.index in
+    λ t. world_with (is.index t) (root t) w.mesh.levels (is.bodies t) (is.budgets t) (is.width t)
 
 -- a run of the four lines comes to this
 pub bench_comes_to : (c : ℕ) → 2 ≤ c → c ≤ 16384 → (w : World) (dids : List Did) → IsBenchRun c w dids → ComesTo c dids
 bench_comes_to c some few w dids run =
-    let same = world_is c w run.world in
+    let same = world_is c some w run.world in
     let mesh = subst (λ (v : World). IsMesh v.mesh) same run.world.mesh in
     over_strip c some few w.mesh.levels mesh run.first run.last dids
     (subst (λ (v : World). IsOpening v run.first) same run.opens)
     (subst (λ (v : World). Runs v run.first (bench_orders c) dids run.last) same run.runs)
     (subst (λ (v : World). NeverFails (store_outcomes v dids)) same run.never)
+
+-- it is ready to settle behind the first two
+pub bench_is_ready : (c : ℕ) → 2 ≤ c → c ≤ 16384 → (w : World) (first viewed : State) → IsBenchWorld c w → IsOpening w first → Runs w first (first_orders c) (DidOpen 1 ∷ (DidView 1 ∷ [])) viewed → IsReadyToBench c w viewed
+bench_is_ready c some few w first viewed world opens runs =
+    let same = world_is c some w world in
+    let mesh = subst (λ (v : World). IsMesh v.mesh) same world.mesh in
+    subst (λ (v : World). IsReadyToBench c v viewed) (sym same)
+    (ready_over_strip c some few w.mesh.levels mesh first viewed (subst (λ (v : World). IsOpening v first) same opens)
+    (subst (λ (v : World). Runs v first (first_orders c) (DidOpen 1 ∷ (DidView 1 ∷ [])) viewed) same runs))

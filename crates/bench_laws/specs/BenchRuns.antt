@@ -18,7 +18,7 @@ use Rattle.run_model.specs.Worlds.{World}
 use Rattle.run_model.specs.States.{State}
 use Rattle.run_model.specs.Lines.{Did, DidOpen, DidView, DidTurns, DidFrame, Runs}
 use Rattle.run_model.specs.RunTexts.{store_outcomes, IsOpening}
-use Rattle.bench_laws.specs.Settlings.{NeverFails}
+use Rattle.bench_laws.specs.Settlings.{NeverFails, IsReadyToSettle, IsReadyToShow}
 
 -- ---- what is run
 
@@ -34,7 +34,11 @@ bench_budget c = 300 * c - 120
 abbrev pub bench_view : ℕ → ViewSeen
 bench_view c = record { eye = flat (2 * c) 2; focal = 65536; threshold = 1; limit = 4294967295 }
 
--- session 1 opens with that view, the tier settles, and a round is finished
+-- session 1 opens with that view
+abbrev pub first_orders : ℕ → List Order
+first_orders c = orders.Open 1 ∷ (orders.View 1 (bench_view c) ∷ [])
+
+-- it does so, the tier settles, and a round is finished
 abbrev pub bench_orders : ℕ → List Order
 bench_orders c = orders.Open 1 ∷ (orders.View 1 (bench_view c) ∷ (orders.Settle ∷ (orders.Frame 1 ∷ [])))
 
@@ -43,7 +47,6 @@ bench_orders c = orders.Open 1 ∷ (orders.View 1 (bench_view c) ∷ (orders.Set
 pub record IsBenchWorld (c : ℕ) (w : World) : Type 0 where
   pub mesh : IsMesh w.mesh
   pub index : w.mesh.index ≡ (bench_file c).index
-  pub root : w.mesh.root ≡ 0
   pub bodies : w.bodies ≡ Some (bench_file c).bodies
   pub budgets : w.budgets ≡ bench_budget c ∷ []
   pub width : w.width ≡ 1
@@ -127,3 +130,8 @@ pub record ComesTo (c : ℕ) (dids : List Did) : Type 0 where
   pub are : dids ≡ bench_dids log frame
   pub turns : length log ≡ bench_turns c
   pub finest : IsFinestFrame c frame
+
+-- behind its first two lines a run is ready to settle, and session 1's view can be shown
+pub record IsReadyToBench (c : ℕ) (w : World) (a : State) : Type 0 where
+  pub settle : IsReadyToSettle w a
+  pub show : IsReadyToShow w a 1 (bench_view c)

@@ -1,5 +1,6 @@
 pub mod FinishedTries
 pub mod Settlings
+pub mod Faultless
 pub mod BaseKept
 pub mod SettlingRuns
 pub mod SettledFrames

@@ -5,7 +5,8 @@
 //! does and prints.
 #![tactic(auto)]
 
-ghost use Rattle.std.specs.Prelude.{◌≡◌, ℕ, ◌*◌, ◌<◌, ◌≤◌, Bool, true, List, None, Some};
+ghost use Rattle.std.specs.Prelude.{◌≡◌, ℕ, ◌*◌, ◌<◌, ◌≤◌, Bool, true, List, [], ◌∷◌, None, Some};
+ghost use Rattle.std.specs.List.{AllByRecursion};
 ghost use Rattle.file_model.specs.Lists.{BodyLists};
 ghost use Rattle.mesh_model.specs.Meshes.{MeshLists, IsMesh};
 ghost use Rattle.round_model.specs.Views.{ViewSeen};
@@ -24,13 +25,14 @@ ghost use Rattle.detail_laws.specs.Wanted.{FitsWanted, AreAnsweredBy};
 ghost use Rattle.run_model.specs.Worlds.{World, IsWorld, HoldsBase};
 ghost use Rattle.run_model.specs.States.{State};
 ghost use Rattle.run_model.specs.Sound.{IsSound};
-ghost use Rattle.run_model.specs.Lines.{Did, SettlesTo, Runs};
-ghost use Rattle.run_model.specs.RunTexts.{turn_outcomes, IsOpening};
+ghost use Rattle.run_model.specs.Lines.{Did, DidOpen, DidView, SettlesTo, Runs};
+ghost use Rattle.run_model.specs.RunTexts.{turn_outcomes, turns_in, store_outcomes, IsOpening};
 ghost use Rattle.run_model.specs.PrintedFrames.{IsTold};
 ghost use Rattle.bench_laws.specs.Settlings.{SettlesBy, PrintsBy, NeverFails, IsReadyToSettle, IsReadyToShow, ShowsWanted};
+ghost use Rattle.bench_laws.specs.Faultless.{AreFaultless};
 ghost use Rattle.bench_laws.specs.SettlingRuns.{HasSettled};
 ghost use Rattle.bench_laws.specs.StripViews.{bench_rules};
-ghost use Rattle.bench_laws.specs.BenchRuns.{bench_counts, IsBenchRun, ComesTo, AreBenchCounts, IsBenchText};
+ghost use Rattle.bench_laws.specs.BenchRuns.{first_orders, bench_counts, IsBenchWorld, IsReadyToBench, IsBenchRun, ComesTo, AreBenchCounts, IsBenchText};
 
 /// A session that had no round, or a printed one, finishes a round whose tries are answered by the epochs that
 /// its steps were told.
@@ -52,6 +54,13 @@ pub fn a_settling_in_a_run_is_one_of_its_chain()
         → HasSettled w used tiers a b log }
 {}
 
+/// A run in whose turns no fetch faulted is one over a store that never failed.
+pub fn a_run_without_faults_has_a_store_that_never_fails()
+    ensures { (w : World) (dids : List Did)
+        → AllByRecursion (λ (did : Did). AreFaultless (turns_in did)) dids
+        → NeverFails (store_outcomes w dids) }
+{}
+
 /// Behind the lines of a run, where the tiers have room for all that is wished, passed over or in use: a settling
 /// over a store that never fails, and then the next frame of a session with a view that fits, whose cut is exactly
 /// the root and the nodes, other than root and sinks, that the view wants.
@@ -66,12 +75,22 @@ pub fn a_frame_behind_a_settling_shows_what_is_wanted()
 
 /// The view of a bench run wants every node of the strip but the sink, and each frame is within its limit.
 pub fn view_of_a_bench_run_wants_all()
-    ensures wanted { (columns : ℕ) → 2 ≤ columns → columns ≤ MOST_COLUMNS → (levels : List ℕ) (v : ℕ)
+    ensures wanted { (columns : ℕ) → 2 ≤ columns → columns ≤ MOST_COLUMNS → (levels : List ℕ)
+        → (v : ℕ)
         → v < 2 * columns → IsRootOrWanted (bench_rules columns levels) v }
     ensures no_others { (columns : ℕ) → 2 ≤ columns → columns ≤ MOST_COLUMNS → (levels : List ℕ)
         (v : ℕ) → IsRootOrWanted (bench_rules columns levels) v → v < 2 * columns }
     ensures fits { (columns : ℕ) → 2 ≤ columns → columns ≤ MOST_COLUMNS → (levels : List ℕ)
         → FitsWanted (bench_rules columns levels) }
+{}
+
+/// Behind its first two lines a bench run is ready to settle: the tier has room for all patches, nothing is aside,
+/// epochs are low, and session 1's view can be shown.
+pub fn a_bench_run_is_ready_to_settle()
+    ensures { (columns : ℕ) → 2 ≤ columns → columns ≤ MOST_COLUMNS → (w : World)
+        (first viewed : State) → IsBenchWorld columns w → IsOpening w first
+        → Runs w first (first_orders columns) (DidOpen 1 ∷ (DidView 1 ∷ [])) viewed
+        → IsReadyToBench columns w viewed }
 {}
 
 /// Every bench run over c columns settles in 9c - 2 turns, and its frame has all nodes but the sink in its cut,
