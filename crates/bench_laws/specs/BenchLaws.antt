@@ -28,6 +28,7 @@ use Rattle.run_model.specs.States.{State}
 use Rattle.run_model.specs.Lines.{Did, DidOpen, DidView, DidTurns, DidFrame, frame_of, SettlesTo, Does, DoesSettle, DoesFrame, Runs, NoLine, OneLine}
 use Rattle.run_model.specs.RunTexts.{StoreOutcome, GaveBody, store_outcomes, turn_outcomes, IsOpening}
 use Rattle.bench_laws.specs.Settlings.{NeverFails, ShowsWanted}
+use Rattle.bench_laws.specs.Faultless.{AreFaultless, lines_gave}
 use Rattle.bench_laws.specs.SettledFrames.{IsFrameLine, frame_line, shows_wanted}
 use Rattle.strip_laws.specs.Kinds.{each_first}
 use Rattle.bench_laws.specs.BenchRuns.{bench_file, bench_view, first_orders, bench_orders, bench_dids, IsBenchWorld, IsBenchRun, IsFinestFrame, ComesTo, IsReadyToBench}
@@ -128,6 +129,18 @@ bench_lines w c a e _ (OneLine {b = b} {did = first} begins (OneLine {b = d} {di
       shows = printing.2;
       are = λ t. opened t ∷ (viewed t ∷ (settling.1 t ∷ (printing.1 t ∷ [])));
     }
+
+-- lines that did this are a run
+pub bench_run_from : (c : ℕ) (w : World) (a b d e last : State) (log : List (ℕ × Turn)) (frame : Frame) → IsBenchWorld c w → IsOpening w a → Does w a (orders.Open 1) (DidOpen 1) b → Does w b (orders.View 1 (bench_view c)) (DidView 1) d → Does w d orders.Settle (DidTurns log) e → Does w e (orders.Frame 1) (DidFrame frame) last → AreFaultless log
+    → IsBenchRun c w (bench_dids log frame)
+bench_run_from c w a b d e last log frame world opens begins sees settles prints faultless = record {
+  world = world;
+  first = a;
+  opens = opens;
+  last = last;
+  runs = OneLine begins (OneLine sees (OneLine settles (OneLine prints NoLine)));
+  never = lines_gave w (bench_dids log frame) (tt, (tt, (faultless, (tt, tt))));
+}
 
 -- ---- over the strip
 

@@ -70,6 +70,7 @@ needed_within version fields t wish used sizes =
 
 -- ---- lines
 
+-- the session opened
 pub record IsOpenLine (w : World) (a : State) (i : ℕ) (did : Did) (b : State) : Type 0 where
   pub did_is : did ≡ DidOpen i
   pub is : b ≡ seated a i (Some (session_opened (patch_count w)))
@@ -77,6 +78,7 @@ pub record IsOpenLine (w : World) (a : State) (i : ℕ) (did : Did) (b : State) 
 pub open_line : (w : World) (a : State) (i : ℕ) (did : Did) (b : State) → Does w a (orders.Open i) did b → IsOpenLine w a i did b
 open_line w a i did b (DoesOpen _ number closed) = record { did_is = refl; is = refl }
 
+-- the open session's view was set and posted
 pub record IsViewLine (w : World) (a : State) (i : ℕ) (view : ViewSeen) (did : Did) (b : State) : Type 0 where
   pub s : SessionState
   pub at : a.sessions i ≡ Some s

@@ -51,6 +51,7 @@ counts_of columns file_bytes file_nodes file_patches base_patches base_triangles
   frame = frame;
 }
 
+-- what is counted of a run is so much
 pub bench_counts_are : (c : ℕ) → 2 ≤ c → c ≤ 16384 → (counts : BenchCounts) → AreBenchCounts c counts → counts ≡ bench_counts c
 bench_counts_are c some few counts are =
     let comes = bench_comes_to c some few are.w (bench_dids are.log are.frame) are.run in
@@ -68,5 +69,6 @@ bench_counts_are c some few counts are =
     frame_counts are.frame counts.frame (bench_frame c) are.counted (subst (λ (f : Frame). IsFrameCounted f (bench_frame c)) (sym (same_frame are.log comes.log are.frame comes.frame comes.are)) comes.finest.counted) in
     λ t. counts_of (sym are.columns t) (bytes t) (nodes t) (patches t) (base_patches t) (base_triangles t) (base_open t) (turns t) (frame t)
 
+-- so its summary is one
 pub bench_text_is : (c : ℕ) → 2 ≤ c → c ≤ 16384 → (text : List ℕ) → IsBenchText c text → text ≡ bench_text (bench_counts c)
 bench_text_is c some few text is = is.is ∙ ap bench_text (bench_counts_are c some few is.counts is.are)

@@ -49,6 +49,7 @@ use Rattle.bench_laws.specs.FinishedTries.{finished_answered}
 
 -- ---- what a line did
 
+-- the session finished a round, and this is its frame
 pub record IsFrameLine (w : World) (b : State) (i : ℕ) (frame : Frame) : Type 0 where
   pub s : SessionState
   pub at : b.sessions i ≡ Some s

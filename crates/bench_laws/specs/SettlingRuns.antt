@@ -110,6 +110,7 @@ module _ (w : World) (a : State) (used : ℕ → ℕ → Bool) (sound : IsSound 
 
 -- ---- what a turn keeps
 
+-- the state is sound, and has the board, the uses and the sessions of the first
 record KeepsRun (w : World) (a b : State) : Type 0 where
   sound : IsSound w b
   board : board_of w b ≡ board_of w a
@@ -144,6 +145,7 @@ keeps_both w a b c first later = record { sound = later.sound; board = later.boa
 
 -- ---- turns until one is idle
 
+-- the chain made these turns, and they went well
 record HasIdled (w : World) (used : ℕ → ℕ → Bool) (k : ℕ) (a b : State) (log : List (ℕ × Turn)) : Type 0 where
   keeps : KeepsRun w a b
   chain : TurnsToIdle (board_of w a) k a.chain log b.chain
@@ -167,6 +169,7 @@ has_idled w used k a c _ sound are_used (MoreTurns {b = b} {log = log} answer on
 
 -- ---- all tiers
 
+-- the first n tiers of the chain settled so, and it went well
 pub record HasSettled (w : World) (used : ℕ → ℕ → Bool) (n : ℕ) (a b : State) (log : List (ℕ × Turn)) : Type 0 where
   pub sound : IsSound w b
   pub sessions : b.sessions ≡ a.sessions
