@@ -34,7 +34,7 @@ sum_grows_at (suc n) c more f g within grows here =
           omega arith
     ]
 
-sum_from_first : (n : ℕ) (f : ℕ → ℕ) → sum_below (suc n) f ≡ f 0 + sum_below n (λ p. f (suc p))
+pub sum_from_first : (n : ℕ) (f : ℕ → ℕ) → sum_below (suc n) f ≡ f 0 + sum_below n (λ p. f (suc p))
 unfolding sum_below
 sum_from_first zero f = refl
 sum_from_first (suc n) f = let rest = sum_from_first n f in omega arith

@@ -41,7 +41,7 @@ wished_by_each (Some other ∷ views) zero v view at =
     first x y is = cc
 wished_by_each (Some other ∷ views) (suc place) v view at = let rest = wished_by_each views place v view at in omega arith
 
-wanted_is_wished : (rules : Rules) (board : Board) (p : ℕ) → IsPosted rules board → IsOfWanted rules p → 0 < board.wish p
+pub wanted_is_wished : (rules : Rules) (board : Board) (p : ℕ) → IsPosted rules board → IsOfWanted rules p → 0 < board.wish p
 unfolding wish_of
 wanted_is_wished rules board p posted of_wanted =
     let v = of_wanted.field.tail in
@@ -51,7 +51,7 @@ wanted_is_wished rules board p posted of_wanted =
     let wish = posted.wishes p ∙ ap (λ (o : Option PatchField). option_map_or (λ (f : PatchField). node_wish posted.views f.tail) o 0) of_wanted.there in
     omega arith
 
-mark_at : (test : PatchField → Bool) (fields : List PatchField) (p : ℕ) (f : PatchField) → slice_get fields p ≡ Some f → is_marked (map test fields) p ≡ test f
+pub mark_at : (test : PatchField → Bool) (fields : List PatchField) (p : ℕ) (f : PatchField) → slice_get fields p ≡ Some f → is_marked (map test fields) p ≡ test f
 mark_at test [] p f here = absurd (cc)
 mark_at test (g ∷ gs) zero f here = ap test (same_Some g f here)
 mark_at test (g ∷ gs) (suc p) f here = mark_at test gs p f here
@@ -77,7 +77,7 @@ wanted_within rules p of_wanted =
 -- ---- so it is held behind the settling, and its epoch is odd
 
 -- below the lowest tier is the store, which has every patch
-store_has : (tiers : List TierState) (k p : ℕ) → length tiers ≡ suc k → has_below tiers k p ≡ true
+pub store_has : (tiers : List TierState) (k p : ℕ) → length tiers ≡ suc k → has_below tiers k p ≡ true
 unfolding has_below
 store_has tiers k p many = ap (λ (o : Option TierState). option_map_or (λ (t : TierState). is_held t p) o true) (slice_get_past tiers (suc k) (omega arith))
 

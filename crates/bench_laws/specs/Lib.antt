@@ -1,0 +1,12 @@
+pub mod FinishedTries
+pub mod Settlings
+pub mod Faultless
+pub mod BaseKept
+pub mod SettlingRuns
+pub mod SettledFrames
+pub mod BenchRuns
+pub mod StripViews
+pub mod BenchOpening
+pub mod BenchTurns
+pub mod BenchLaws
+pub mod BenchTexts
