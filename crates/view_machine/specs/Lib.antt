@@ -5,6 +5,10 @@ pub mod SettleStates
 pub mod Machines
 pub mod MachineLaws
 pub mod LineTells
+pub mod LineCounts
+pub mod LineEnds
+pub mod LineHistories
+pub mod AllowedOrders
 pub mod TurnClauses
 pub mod SeatLines
 pub mod TurnKeeps
