@@ -12,3 +12,5 @@ pub mod AllowedOrders
 pub mod TurnClauses
 pub mod SeatLines
 pub mod TurnKeeps
+pub mod FrameLines
+pub mod FrameSeats

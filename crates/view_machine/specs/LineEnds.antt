@@ -70,15 +70,16 @@ pub record StopsMemory (w : World) (a b : State) (before after : Option (List �
   pub stops : StopsAt w a b
   pub nothing : after ≡ before
 
--- the sink failed: the line did this, and a proper prefix of its text was written
-pub record StopsWriting (w : World) (order : Order) (a b : State) (sink_faults sink_faults_now : ℕ) (before after : Option (List ℕ)) : Type 0 where
+-- the sink failed: the line did this, with the store's faults counted, and a proper prefix of its text was written
+pub record StopsWriting (w : World) (order : Order) (a b : State) (faults_before faults_now sink_faults sink_faults_now : ℕ) (before after : Option (List ℕ)) : Type 0 where
   pub did : Did
   pub does : Does w a order did b
   pub text : List ℕ
   pub is : IsTextOf did text
   pub part : WritesPart before after text
+  pub faults : RoseBy (faults_of w did) faults_before faults_now
   pub rose : Rose sink_faults sink_faults_now
 
-abbrev pub StopsLine : RunRefusal → World → Order → State → State → ℕ → ℕ → Option (List ℕ) → Option (List ℕ) → Type 0
-StopsLine Memory w order a b sink_faults sink_faults_now before after = StopsMemory w a b before after
-StopsLine WriteFault w order a b sink_faults sink_faults_now before after = StopsWriting w order a b sink_faults sink_faults_now before after
+abbrev pub StopsLine : RunRefusal → World → Order → State → State → ℕ → ℕ → ℕ → ℕ → Option (List ℕ) → Option (List ℕ) → Type 0
+StopsLine Memory w order a b faults_before faults_now sink_faults sink_faults_now before after = StopsMemory w a b before after
+StopsLine WriteFault w order a b faults_before faults_now sink_faults sink_faults_now before after = StopsWriting w order a b faults_before faults_now sink_faults sink_faults_now before after
