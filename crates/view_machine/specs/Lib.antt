@@ -8,3 +8,4 @@ pub mod LineTells
 pub mod TurnClauses
 pub mod SeatLines
 pub mod TurnKeeps
+pub mod Openings

@@ -7,5 +7,5 @@ mod machines;
 mod refusals;
 
 pub use cache_chain::StartRefusal;
-pub use machines::Machine;
+pub use machines::{Beginning, Machine};
 pub use refusals::RunRefusal;
