@@ -1,5 +1,5 @@
 -- The machine of a chain that has just opened.
-use Rattle.std.proofs.Common.{ℕ, List, Option, ap, ap₂}
+use Rattle.std.proofs.Common.{ℕ, List, Option, ap₂}
 use Rattle.view_outside.specs.Files.{file_bytes}
 use Rattle.token_words.specs.PlainTokens.{words_seen}
 use Rattle.cache_chain.specs.ChainStates.{states_of}

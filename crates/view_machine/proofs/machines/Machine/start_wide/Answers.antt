@@ -1,5 +1,5 @@
 -- The tiers that opened are over the store's file still.
-use Rattle.std.proofs.Common.{List, Option, ℕ, sym, ap, subst}
+use Rattle.std.proofs.Common.{List, Option, sym, subst}
 use Rattle.view_outside.specs.Files.{Named, HasFile, file_bytes}
 use Rattle.cache_chain.specs.ChainStates.{states_of, AreTiersOf}
 use Rattle.cache_chain.specs.Opening.{IsOpened}
