@@ -56,8 +56,10 @@ pub record BeginsOver (mesh : MeshLists) (words : PlainTokens) (seats : SeatsSee
 abbrev pub world_for : MeshLists → Option (List ℕ) → List ℕ → ℕ → World
 world_for mesh bytes budgets width = record { mesh = mesh; bodies = told_bodies mesh.index bytes; budgets = budgets; width = width }
 
--- a run opens here, over the mesh and its file
+-- a run opens here, over the mesh and its file, in a safe state
 pub record OpensOver {S : Type 0} (over : MeshSeen) (number : ℕ) (told : Option (List ℕ)) (m : MachineSeen S) : Type 0 where
+  pub world : IsWorld (world_of m)
+  pub safe : IsSafe (world_of m) (run_state m)
   pub opening : IsOpening (world_of m) (run_state m)
   pub closed : m.seats ≡ empty_seats over.lists
   pub blank : m.board ≡ empty_board over.lists
