@@ -291,6 +291,7 @@ line_printed w order a b text faults faults_now taken taken_now before after lin
   is = line.is;
   written = written;
   faults = line.counts.faults;
+  unchanged = line.counts.unchanged;
   taken = line.counts.taken;
 }
 
@@ -304,6 +305,7 @@ line_unwritten w order a b text faults faults_now taken taken_now sink_faults si
   is = line.is;
   part = part;
   faults = line.counts.faults;
+  unchanged = line.counts.unchanged;
   rose = rose;
 }
 
