@@ -7,6 +7,8 @@ use token_words::PlainTokens;
 use view_outside::Store;
 use wish_board::WishBoard;
 
+mod frames;
+mod lines;
 mod opening;
 mod sessions;
 mod tiers;
