@@ -3,7 +3,7 @@ use Rattle.std.proofs.Common.{◌≡◌, ℕ, suc, ◌+◌, ◌^◌, ◌<◌, �
 use Rattle.std.specs.Prelude.{sum_by}
 use Rattle.std.specs.Option.{option_map_or}
 use Rattle.std.proofs.Math.Path.{fun_ext}
-use Rattle.std.proofs.lemmas.List.{length-append, drop_all}
+use Rattle.std.proofs.lemmas.List.{length-append}
 use Rattle.std.proofs.lemmas.List.Sums.{sum_by-append, sum_by-cons}
 use Rattle.patch_file.specs.Written.{WritesPart-after, appended-after}
 use Rattle.script_model.specs.declared.modes.Mode.{Mode}
@@ -268,11 +268,3 @@ module _ {S : Type 0} (old mid : MachineSeen S) (lines : List Line) (k : ℕ) (l
   run_stops WriteFault new h after sink_before sink_between sink_now later sink_later stop =
       subst (λ (ls : List Line). StopsRunWriting (world_of old) (orders_of ls) (run_state old) (run_state new) f h sink_before sink_now before after) (sym lines_are)
       (stops_writing plays.mode old mid plays.done line rest f g t u before between here new after h sink_before sink_between sink_now sink_later stop)
-
-pub plays_all : {S : Type 0} (old now : MachineSeen S) (lines : List Line) (k f g t u : ℕ) (before after : Option (List ℕ)) → PlaysTo old now lines k f g t u before after → length lines ≤ k → RanLines (world_of old) (orders_of lines) (run_state old) (run_state now) f g t u before after
-plays_all old now lines k f g t u before after plays past =
-    let all : plays.done ≡ lines = sym (append-nil plays.done) ∙ ap (λ (ls : List Line). plays.done ++ ls) (sym (drop_all k lines past)) ∙ sym plays.split in
-    subst (λ (ls : List Line). RanLines (world_of old) (orders_of ls) (run_state old) (run_state now) f g t u before after) all plays.played.ran
-
-pub plays_place : {S : Type 0} (old now : MachineSeen S) (lines : List Line) (k f g t u : ℕ) (before after : Option (List ℕ)) → PlaysTo old now lines k f g t u before after → KeepsPlace old now
-plays_place old now lines k f g t u before after plays = plays.played.place

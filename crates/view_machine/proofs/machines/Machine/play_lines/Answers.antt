@@ -1,7 +1,7 @@
 -- Each line that is played is a line more of the run.
 use Rattle.std.proofs.Common.{◌<◌, ◌^◌, refl, ◌∙◌, arith}
 use Rattle.std.proofs.lemmas.Result.{err_from_is_err_and}
-use Rattle.view_machine.specs.RunLines.{plays_none, next_line, line_allowed, line_few, line_frames, plays_on, run_stops, plays_all, plays_place}
+use Rattle.view_machine.specs.RunLines.{plays_none, next_line, line_allowed, line_few, line_frames, plays_on, run_stops}
 use Rattle.view_machine.proofs.machines.Machine.play_lines.Goals as goal
 
 pub plays-init : goal.plays-init
@@ -47,9 +47,3 @@ returns-in_err-line-clause-stops g c =
     rw (p.1, p.2)
     (run_stops _ _ _ _ _ _ _ _ _ _ _ c.plays.invariant.plays (next_line _ _ c.line-item.result c.plays-test.true c.line-item.is) c.in_err-line.field-0.0 c.line.new.self (g.S.Store.faults c.line.new.self.chain.store) (g.O.Sink.written c.line.new.sink) (g.O.Sink.faults c.args.sink.now) (g.O.Sink.faults c.plays.sink) (g.O.Sink.faults c.line.new.sink)
     c.line.ensures.later c.plays.invariant.sink c.in_err-line.ensures.stops)
-
-pub returns-clause-ran : goal.returns-clause-ran
-returns-clause-ran g c = plays_all _ _ _ _ _ _ _ _ _ _ c.plays.invariant.plays c.plays-test.false
-
-pub returns-clause-place : goal.returns-clause-place
-returns-clause-place g c = plays_place _ _ _ _ _ _ _ _ _ _ c.plays.invariant.plays
