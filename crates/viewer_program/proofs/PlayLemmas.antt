@@ -14,6 +14,7 @@ use Rattle.file_laws.specs.Files.{are_bodies-parts}
 use Rattle.mesh_model.specs.declared.refusals.Refusal.{Refusal}
 use Rattle.mesh_model.specs.declared.refusals.Refusal.TheVariants.{File, Dag}
 use Rattle.mesh_model.specs.Graph.{outgoing}
+use Rattle.mesh_model.specs.Accepted.{IsAccepted}
 use Rattle.mesh_model.specs.Meshes.{MeshLists, IsMesh}
 use Rattle.accepted_mesh.specs.MeshView.{MeshSeen, IsMeshOf}
 use Rattle.body_loads.specs.Loads.{body_at}
@@ -36,6 +37,7 @@ use Rattle.view_script.specs.declared.refusals.ScriptRefusal.TheVariants as scri
 use Rattle.view_script.specs.Answers.{Refuses}
 use Rattle.view_machine.specs.LineCounts.{TellsBodies}
 use Rattle.view_machine.specs.ToldBodies.{lists_said, said_bodies, told_bodies}
+use Rattle.run_model.specs.PrintedFrames.{told_file}
 use Rattle.run_model.specs.Worlds.{World}
 use Rattle.text_model.specs.declared.statuses.Status.{Status}
 use Rattle.text_model.specs.declared.statuses.Status.TheVariants as statuses
@@ -133,6 +135,16 @@ tells_or_not (Some bytes) mesh play of =
       told = over.bodies;
       some_triangle = some_corner file.index.version (length file.index.nodes) file.index.fields file.bodies over.spelling.bodies over.spelling.index.fields;
     })
+
+-- what is told of the file is accepted
+pub accepted_or_not : (told : Option (List ℕ)) (mesh : MeshLists) (play : PlaySeen) → IsWorldOf play told (play_world mesh told play) → IfSome (play_world mesh told play).bodies (λ (bodies : List BodyLists). IsAccepted (told_file (play_world mesh told play) bodies) mesh.root)
+accepted_or_not None mesh play of = tt
+accepted_or_not (Some bytes) mesh play of =
+    let over = of.over in
+    let file = over.file in
+    let same : said_bodies mesh.index bytes ≡ file.bodies = same_Some (said_bodies mesh.index bytes) file.bodies over.bodies in
+    let is : file ≡ record { index = mesh.index; bodies = said_bodies mesh.index bytes } = λ i. record { index = over.index i; bodies = (sym same) i } in
+    subst (λ (f : FileLists). IsAccepted f mesh.root) is over.accepted
 
 -- ---- refusals
 

@@ -22,6 +22,7 @@ use Rattle.view_machine.specs.declared.refusals.RunRefusal.TheVariants as runs
 use Rattle.view_machine.specs.Machines.{MachineSeen, world_of, run_state}
 use Rattle.view_machine.specs.LineCounts.{TellsBodies}
 use Rattle.view_machine.specs.RunEnds.{HaveNoFailure, HaveNoChange, RanLines, StopsRun}
+use Rattle.viewer_program.specs.Promises.{OpensSafely, promises_kept}
 use Rattle.viewer_program.specs.PlayRuns.{run_faults, run_bytes, PrintsRun}
 use Rattle.viewer_program.specs.PlayEnds.{StoreCounts, RunsWhole, RunsPart, RunEnds}
 use Rattle.viewer_program.specs.Refusals.{run_status}
@@ -61,13 +62,14 @@ no_change_by w dids unchanged (inr tells) no_change = unchanged tells
 no_change_told : (w : World) (dids : List Did) → (TellsBodies w → HaveNoChange dids) → (w.bodies ≡ None) ⊎ TellsBodies w → (w.bodies ≡ None → ⊥) → HaveNoChange dids
 no_change_told w dids unchanged tells some = no_change_by w dids unchanged tells (λ none. absurd (some none))
 
-module _ (w : World) (a b : State) (opens : IsOpening w a) (counts : StoreCounts) (faults : ℕ) (later : counts.faults ≤ faults) (tells : (w.bodies ≡ None) ⊎ TellsBodies w) where
+module _ (w : World) (a b : State) (opens : IsOpening w a) (counts : StoreCounts) (faults : ℕ) (later : counts.faults ≤ faults) (tells : (w.bodies ≡ None) ⊎ TellsBodies w) (safely : OpensSafely w a) where
   prints : (lines : List Line) (dids : List Did) (text : List ℕ) → Runs w a (orders_of lines) dids b → AreTextsOf dids text → RoseBy (run_faults w dids) faults counts.faults_now → (TellsBodies w → HaveNoChange dids) → PrintsRun w lines text counts.faults counts.faults_now
   prints lines dids text runs texts rose unchanged = record {
     outcomes = store_outcomes w dids;
     is = record { first = a; opens = opens; dids = dids; last = b; runs = runs; fetched = refl; is = texts };
     told_faults = rose_since (run_faults w dids) counts.faults faults counts.faults_now later rose;
     unchanged = no_change_told w dids unchanged tells;
+    promises = promises_kept w a b (orders_of lines) dids safely runs;
   }
 
   -- all lines
@@ -97,14 +99,14 @@ module _ (w : World) (a b : State) (opens : IsOpening w a) (counts : StoreCounts
       }
 
 -- what a run that was played says
-pub played_ends : {T : Type 0} (w : World) (a b : State) (counts : StoreCounts) (faults taken first sink sink_now : ℕ) (lines : List Line) (ran : Result T RunRefusal) (before after : Option (List ℕ)) → IsOpening w a → (w.bodies ≡ None) ⊎ TellsBodies w → counts.faults ≤ faults → taken ≡ taken_after counts.taken first
+pub played_ends : {T : Type 0} (w : World) (a b : State) (counts : StoreCounts) (faults taken first sink sink_now : ℕ) (lines : List Line) (ran : Result T RunRefusal) (before after : Option (List ℕ)) → IsOpening w a → (w.bodies ≡ None) ⊎ TellsBodies w → OpensSafely w a → counts.faults ≤ faults → taken ≡ taken_after counts.taken first
     → OnOk ran (RanLines w (orders_of lines) a b faults counts.faults_now taken counts.taken_now before after) → IfErr ran (λ refusal. StopsRun refusal w (orders_of lines) a b faults counts.faults_now sink sink_now before after) → RunEnds w lines first counts (run_status ran) before after
-played_ends w a b counts faults taken first sink sink_now lines (Ok x) before after opens tells later is all stops =
-    whole_run w a b opens counts faults later tells lines all.dids all.text first taken before after all.runs all.texts all.written all.faults all.unchanged all.taken is
-played_ends w a b counts faults taken first sink sink_now lines (Err runs.WriteFault) before after opens tells later is all stops =
-    part_run w a b opens counts faults later tells lines stops.done stops.rest stops.dids stops.text (WritesPart before after) stops.are stops.runs stops.texts stops.faults stops.unchanged stops.part
-played_ends w a b counts faults taken first sink sink_now lines (Err runs.Memory) before after opens tells later is all stops =
-    inr (part_run w a stops.reached opens counts faults later tells lines stops.done (stops.stopped ∷ stops.rest) stops.dids stops.text (λ (text : List ℕ). after ≡ appended before text) stops.are stops.runs stops.texts stops.faults stops.unchanged stops.written)
+played_ends w a b counts faults taken first sink sink_now lines (Ok x) before after opens tells safely later is all stops =
+    whole_run w a b opens counts faults later tells safely lines all.dids all.text first taken before after all.runs all.texts all.written all.faults all.unchanged all.taken is
+played_ends w a b counts faults taken first sink sink_now lines (Err runs.WriteFault) before after opens tells safely later is all stops =
+    part_run w a b opens counts faults later tells safely lines stops.done stops.rest stops.dids stops.text (WritesPart before after) stops.are stops.runs stops.texts stops.faults stops.unchanged stops.part
+played_ends w a b counts faults taken first sink sink_now lines (Err runs.Memory) before after opens tells safely later is all stops =
+    inr (part_run w a stops.reached opens counts faults later tells safely lines stops.done (stops.stopped ∷ stops.rest) stops.dids stops.text (λ (text : List ℕ). after ≡ appended before text) stops.are stops.runs stops.texts stops.faults stops.unchanged stops.written)
 
 -- ---- the machine at its opening
 

@@ -7,5 +7,6 @@ pub mod Numbered
 pub mod Strips
 pub mod Outputs
 pub mod Playing
+pub mod Promises
 pub mod PlayRuns
 pub mod PlayEnds

@@ -18,6 +18,7 @@ use Rattle.run_model.specs.RunTexts.{StoreOutcome, IsRunText, turns_in, faults_o
 use Rattle.view_machine.specs.RunEnds.{HaveNoChange}
 use Rattle.view_machine.specs.ToldBodies.{told_bodies}
 use Rattle.viewer_program.specs.Playing.{PlaySeen}
+use Rattle.viewer_program.specs.Promises.{KeepsPromises}
 
 -- ---- the world
 
@@ -76,6 +77,7 @@ pub record PrintsRun (w : World) (lines : List Line) (text : List ℕ) (faults f
   pub is : IsRunText w lines outcomes text
   pub told_faults : RoseBy (run_faults w is.dids) faults faults_now
   pub unchanged : (w.bodies ≡ None → ⊥) → HaveNoChange is.dids
+  pub promises : KeepsPromises w is.first is.dids
 
 -- where the store didn't fail, it gave these first bytes and those of the patches that came from it in the run, and no
 -- other; where it tells nothing, this has the premise that no line tells of bytes that break the rule of bodies
