@@ -11,7 +11,7 @@ use Rattle.viewer_program.specs.Commands.{command_in, version_in, command_with_v
 use Rattle.number_words.specs.Numbers.{number_in}
 use Rattle.viewer_program.specs.declared.plays.TheConstants.{GREATEST_BUDGET}
 use Rattle.viewer_program.specs.Playing.{PlaySeen, with_budget, budgets_in, play_in, play_named}
-use Rattle.viewer_program.specs.Strips.{columns_in}
+use Rattle.viewer_program.specs.Strips.{strip_command_in}
 
 abbrev no_seen : Option PlaySeen
 no_seen = None
@@ -52,12 +52,12 @@ no_play (a ∷ b ∷ c ∷ d ∷ e ∷ f ∷ g ∷ []) command is = absurd cc
 no_play (a ∷ b ∷ c ∷ d ∷ e ∷ f ∷ g ∷ h ∷ []) command is = neither (bytes_eq a (codes "play")) (bytes_eq a (codes "playw"))
 no_play (a ∷ b ∷ c ∷ d ∷ e ∷ f ∷ g ∷ h ∷ i ∷ words) command is = absurd cc
 
--- and those of a play are none that make a strip
-pub no_columns : (words : List (List ℕ)) (play : PlaySeen) → play_in words ≡ Some play → columns_in words ≡ None
-no_columns [] play is = refl
-no_columns (a ∷ []) play is = refl
-no_columns (a ∷ b ∷ []) play is = let e : no_seen ≡ Some play = sym (neither (bytes_eq a (codes "play")) (bytes_eq a (codes "playw"))) ∙ is in absurd cc
-no_columns (a ∷ b ∷ c ∷ words) play is = refl
+-- and those of a play are none of a command over a strip
+pub no_strip_command : (words : List (List ℕ)) (play : PlaySeen) → play_in words ≡ Some play → strip_command_in words ≡ None
+no_strip_command [] play is = refl
+no_strip_command (a ∷ []) play is = refl
+no_strip_command (a ∷ b ∷ []) play is = let e : no_seen ≡ Some play = sym (neither (bytes_eq a (codes "play")) (bytes_eq a (codes "playw"))) ∙ is in absurd cc
+no_strip_command (a ∷ b ∷ c ∷ words) play is = refl
 
 -- ---- budgets, one after the other
 

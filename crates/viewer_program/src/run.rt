@@ -13,14 +13,14 @@ ghost use Rattle.viewer_program.specs.Endings.{StopsAt, CanStop, Ends, IsChange,
 ghost use Rattle.viewer_program.specs.Outputs.{output_text, IsWritable};
 ghost use Rattle.viewer_program.specs.Playing.{play_in};
 ghost use Rattle.viewer_program.specs.PlayEnds.{PlayEnds, counts_of, FailsToRead, IsBeforeScript, IsBehindScript};
-ghost use Rattle.viewer_program.specs.Strips.{columns_in, IsStripText, IsForMemory};
+ghost use Rattle.viewer_program.specs.Strips.{strip_command_in, IsStripOutput, IsForMemory};
 ghost use Rattle.viewer_program.specs.Told.{named_bytes};
 
 use crate::commands::{Command, command_of, file_name};
 use crate::outputs::{Output, command_output};
 use crate::playing::run_play;
 use crate::plays::play_of;
-use crate::strips::{strip_columns, write_strip};
+use crate::strips::{run_strip_command, strip_command_of};
 use frame_writer::write_text;
 use patch_file::write_file;
 use std::alloc::Global;
@@ -79,17 +79,17 @@ fn run_command<S: Store, O: Sink>(
 
 // Runs a command that reads no file.
 fn run_without_file<O: Sink>(alloc: Global, words: &[String], sink: &mut O) -> Status
-    ensures usage { (result ≡ Usage) ↔ IsNone (columns_in (map string_bytes words.now)) }
-    ensures makes { IfSome (columns_in (map string_bytes words.now))
-        (λ columns. Ends (IsStripText columns) IsForMemory result (O.written sink.old)
+    ensures usage { (result ≡ Usage) ↔ IsNone (strip_command_in (map string_bytes words.now)) }
+    ensures makes { IfSome (strip_command_in (map string_bytes words.now))
+        (λ command. Ends (IsStripOutput command) IsForMemory result (O.written sink.old)
         (O.written sink.new)) }
     ensures changed { IsChange result }
     ensures quiet { IsQuiet result (O.written sink.old) (O.written sink.new) }
     ensures read { result ≡ ReadFault → ⊥ }
     ensures write_fault { OnlyIf WriteFault (Rose (O.faults sink.old) (O.faults sink.new)) result }
 {
-    match strip_columns(words) {
-        Some(columns) => write_strip(alloc, columns, sink),
+    match strip_command_of(words) {
+        Some(command) => run_strip_command(alloc, command, sink),
         None => Status::Usage,
     }
 }
@@ -108,7 +108,7 @@ pub fn run_still<S: Store, I: Source, O: Sink>(
     ensures usage { (result ≡ Usage)
         ↔ (IsNone (command_in (map string_bytes words.now))
         × IsNone (play_in (map string_bytes words.now))
-        × IsNone (columns_in (map string_bytes words.now))) }
+        × IsNone (strip_command_in (map string_bytes words.now))) }
     // What each status means where the store tells the bytes of the named file.
     ensures told { IfSome (command_in (map string_bytes words.now))
         (λ command.
@@ -131,12 +131,12 @@ pub fn run_still<S: Store, I: Source, O: Sink>(
         (S.taken store.new)) result (O.written sink.old) (O.written sink.new)) }
     // A change is told with a fault that the patch's body can have.
     ensures changed { IsChange result }
-    // A strip is written whole, but for a sink that fails and for want of memory,
-    ensures makes { IfSome (columns_in (map string_bytes words.now))
-        (λ columns. Ends (IsStripText columns) IsForMemory result (O.written sink.old)
+    // A strip's file or a bench summary is written whole, but for a sink that fails and for want of memory,
+    ensures makes { IfSome (strip_command_in (map string_bytes words.now))
+        (λ command. Ends (IsStripOutput command) IsForMemory result (O.written sink.old)
         (O.written sink.new)) }
     // and the store isn't asked for it.
-    ensures alone { IfSome (columns_in (map string_bytes words.now)) (λ _.
+    ensures alone { IfSome (strip_command_in (map string_bytes words.now)) (λ _.
         (S.files store.new ≡ S.files store.old) × (S.faults store.new ≡ S.faults store.old)) }
     // The script is left as it was, but by a play,
     ensures script { IsNone (play_in (map string_bytes words.now))
