@@ -1,0 +1,2 @@
+pub mod HalfSpaces
+pub mod Behind
