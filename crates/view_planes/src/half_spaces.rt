@@ -2,7 +2,7 @@
 
 ghost use Rattle.std.specs.Prelude.{◌≡◌, ◌+◌, ◌≤◌, ◌+ℤ◌, ◌-ℤ◌, ◌*ℤ◌, unsigned_abs, IsTrue};
 ghost use Rattle.grid_vertex.specs.Points.{is_within, is_point_within, is_in_grid, square};
-ghost use Rattle.view_planes.specs.HalfSpaces.{normal_squared, half_space_of, dot, offset_of, reach_squared, side_at, side_of};
+ghost use Rattle.view_planes.specs.HalfSpaces.{normal_squared, half_space_of, dot, offset_of, reach_squared, is_below, is_above, is_behind, side_at, side_of};
 
 use grid_vertex::{Ball, Point};
 use std::marker::Model;
@@ -31,6 +31,16 @@ impl Model for HalfSpace {
     ghost invariant = { λ h. IsTrue (is_half_space h.normal h.level) };
 
     ghost inverse = { λ h. record { normal = h.normal; level = h.level } };
+}
+
+// What a list of half-spaces has in its free places.
+impl Default for HalfSpace {
+    fn default() -> HalfSpace {
+        HalfSpace {
+            normal: Point { x: 1, y: 0, z: 0 },
+            level: 0,
+        }
+    }
 }
 
 /// Where a ball lies: wholly in a half-space, across its plane, or wholly outside.
@@ -133,19 +143,31 @@ fn square_of(n: u64) -> u128
     u128::from(n) * u128::from(n)
 }
 
-// On which side a ball lies whose centre has this offset, where the square of its reach is this one.
+// Whether a ball with a centre of this offset is outside, where the square of its reach is this one.
+fn is_below(offset: i64, reach_squared: u128) -> bool
+    requires { unsigned_abs offset ≤ 17179869184 }
+    ensures { result ≡ is_below offset reach_squared }
+{
+    offset < 0 && square_of(offset.unsigned_abs()) > reach_squared
+}
+
+// Whether such a ball is inside.
+fn is_above(offset: i64, reach_squared: u128) -> bool
+    requires { unsigned_abs offset ≤ 17179869184 }
+    ensures { result ≡ is_above offset reach_squared }
+{
+    offset >= 0 && square_of(offset.unsigned_abs()) >= reach_squared
+}
+
+// On which side such a ball lies.
 fn side_by(offset: i64, reach_squared: u128) -> Side
     requires { unsigned_abs offset ≤ 17179869184 }
     ensures { result ≡ side_at offset reach_squared }
 {
-    let squared = square_of(offset.unsigned_abs());
-    if offset < 0 {
-        if squared > reach_squared {
-            return Side::Behind;
-        }
-        return Side::Across;
+    if is_below(offset, reach_squared) {
+        return Side::Behind;
     }
-    if squared >= reach_squared {
+    if is_above(offset, reach_squared) {
         return Side::Front;
     }
     Side::Across
@@ -195,5 +217,15 @@ impl HalfSpace {
         ensures { result ≡ side_of self.now ball.now }
     {
         side_by(self.offset(ball.centre), self.reach_squared(ball.radius))
+    }
+    /// Tells whether the ball lies behind. Condition: its centre is in the grid, and its radius at most
+    /// 4,194,304.
+    #[tactic(auto, unfolding(crate::specs::HalfSpaces::is_behind))]
+    pub fn is_behind(&self, ball: &Ball) -> bool
+        requires centre { IsTrue (is_in_grid ball.now.centre) }
+        requires radius { ball.now.radius ≤ 4194304 }
+        ensures { result ≡ is_behind self.now ball.now }
+    {
+        is_below(self.offset(ball.centre), self.reach_squared(ball.radius))
     }
 }
