@@ -1,17 +1,17 @@
 -- Where a ball is behind a half-space, so is each ball that it contains: a point of it is no further in front
 -- than the distance from the centre, in units of the normal's length.
-use Rattle.std.proofs.Common.{◌≡◌, ℕ, suc, ◌+◌, ◌-◌, ◌*◌, ◌<◌, ◌≤◌, Bool, true, false, not, ◌&&◌, ℤ, pos, negsuc, ◌+ℤ◌, ◌-ℤ◌, ◌*ℤ◌, List, [], ◌∷◌, refl, sym, ap, subst, ◌∙◌, arith, inl, inr, leb, ltb}
-use Rattle.std.specs.Prelude.{unsigned_abs, int_lt}
+use Rattle.std.proofs.Common.{◌≡◌, ℕ, suc, ◌+◌, ◌-◌, ◌*◌, ◌<◌, ◌≤◌, true, ℤ, pos, negsuc, ◌+ℤ◌, ◌-ℤ◌, ◌*ℤ◌, [], ◌∷◌, refl, ap, subst, ◌∙◌, arith, inl, inr, leb, ltb}
+use Rattle.std.specs.Prelude.{unsigned_abs}
 use Rattle.std.proofs.lemmas.Int.{ints}
-use Rattle.std.proofs.lemmas.Bool.{and_parts, and_from, leb-true, ltb-true, lt-ltb, cases_lt}
+use Rattle.std.proofs.lemmas.Bool.{and_parts, leb-true, ltb-true, lt-ltb, cases_lt}
 use Rattle.std.proofs.Math.Nat.{mul-le-mul}
 use Rattle.std.proofs.Math.IntN.{negsuc-*ℤ-negsuc}
 use Rattle.ring_laws.specs.Ring.{X, ◌:+◌, ◌:-◌, ◌:*◌, ring}
 use Rattle.grid_vertex.specs.declared.points.Point.{Point}
 use Rattle.grid_vertex.specs.declared.balls.Ball.{Ball}
-use Rattle.grid_vertex.specs.Points.{square, gap, distance_squared_of}
+use Rattle.grid_vertex.specs.Points.{square, distance_squared_of}
 use Rattle.grid_vertex.specs.Balls.{is_ball_within}
-use Rattle.view_planes.specs.HalfSpaces.{HalfSpaceSeen, normal_squared, dot, offset_of, reach_squared, is_below, is_behind}
+use Rattle.view_planes.specs.HalfSpaces.{HalfSpaceSeen, normal_squared, offset_of, reach_squared, is_below, is_behind}
 
 squared : (z : ℤ) → z *ℤ z ≡ pos (square (unsigned_abs z))
 squared (pos n) = refl

@@ -1,12 +1,12 @@
 -- Where the limit doesn't bind and each try is granted, culling takes away from the view's cut what is behind
 -- a half-space, and nothing else.
-use Rattle.std.proofs.Common.{◌≡◌, ℕ, ◌+◌, ◌*◌, ◌<◌, ◌≤◌, ◌⊎◌, Bool, true, false, not, ◌&&◌, ◌||◌, cond, leb, ltb, eqb, List, [], ◌∷◌, length, map, None, refl, sym, subst, ◌∙◌, arith, inl, inr}
-use Rattle.std.specs.Prelude.{IsTrue, slice_get, slice_index}
-use Rattle.std.specs.List.{list_all, sum_by}
-use Rattle.std.proofs.lemmas.Bool.{and_parts, and_from, or_cases, or_left, or_right, eqb-true, eq-eqb, leb-true, ltb-true, lt-ltb, not-true, cases_Bool}
+use Rattle.std.proofs.Common.{◌≡◌, ℕ, ◌*◌, ◌≤◌, ◌⊎◌, Bool, true, false, not, ◌&&◌, ◌||◌, cond, leb, ltb, eqb, List, [], ◌∷◌, length, map, None, refl, sym, subst, ◌∙◌, arith, inl, inr}
+use Rattle.std.specs.Prelude.{slice_get, slice_index}
+use Rattle.std.specs.List.{list_all}
+use Rattle.std.proofs.lemmas.Bool.{and_parts, and_from, or_cases, or_left, or_right, eqb-true, eq-eqb, leb-true, ltb-true}
 use Rattle.std.proofs.lemmas.List.Sums.{sum_by-cons}
 use Rattle.file_model.specs.declared.fields.PatchField.{PatchField}
-use Rattle.file_model.specs.declared.limits.TheConstants.{MOST_IN_PATCH, MOST_PATCHES}
+use Rattle.file_model.specs.declared.limits.TheConstants.{MOST_IN_PATCH}
 use Rattle.file_model.specs.Lists.{IndexLists}
 use Rattle.file_model.specs.Rules.{IsIndex, is_between, has_ends, has_counts, is_field}
 use Rattle.mesh_model.specs.Frames.{leads_out, root_alone}
@@ -15,12 +15,11 @@ use Rattle.round_model.specs.Scores.{score_of}
 use Rattle.round_model.specs.Order.{Rules}
 use Rattle.round_model.specs.Rounds.{has, frame_size, is_wanted, root_set, round_of}
 use Rattle.round_model.specs.Views.{ViewSeen, rules_of, view_rules}
-use Rattle.round_laws.specs.Ascending.{IsInnerNode}
 use Rattle.round_laws.specs.Parents.{FallsAlong, falls_from_eye}
 use Rattle.round_laws.specs.Cuts.{IsRootOrWanted, round_is_cut, round_members}
 use Rattle.detail_laws.specs.Wanted.{with_members, FitsWanted, AreGranted}
 use Rattle.detail_laws.specs.FullRounds.{full_round}
-use Rattle.view_planes.specs.Planes.{PlanesSeen, is_culled_node, culled_score, culled_scores, planes_rules}
+use Rattle.view_planes.specs.Planes.{PlanesSeen, is_culled_node, culled_score, planes_rules}
 use Rattle.view_planes.specs.Culling.{culled_at, culled_falls}
 
 -- ---- no frame has more triangles than the greatest limit
