@@ -5,6 +5,9 @@ pub mod SettleStates
 pub mod Machines
 pub mod MachineLaws
 pub mod LineTells
+pub mod LineCounts
+pub mod CountLaws
 pub mod TurnClauses
+pub mod TextSteps
 pub mod SeatLines
 pub mod TurnKeeps
