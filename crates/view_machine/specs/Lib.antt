@@ -7,7 +7,12 @@ pub mod MachineLaws
 pub mod LineTells
 pub mod LineCounts
 pub mod CountLaws
+pub mod LineEnds
+pub mod LineHistories
+pub mod AllowedOrders
 pub mod TurnClauses
 pub mod TextSteps
 pub mod SeatLines
 pub mod TurnKeeps
+pub mod FrameLines
+pub mod FrameSeats
