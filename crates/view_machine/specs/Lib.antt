@@ -16,3 +16,4 @@ pub mod SeatLines
 pub mod TurnKeeps
 pub mod FrameLines
 pub mod FrameSeats
+pub mod LineOutputs

@@ -8,6 +8,7 @@ use view_outside::Store;
 use wish_board::WishBoard;
 
 mod frames;
+mod lines;
 mod sessions;
 mod tiers;
 

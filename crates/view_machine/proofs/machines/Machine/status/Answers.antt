@@ -1,4 +1,4 @@
-use Rattle.std.proofs.Common.{◌≡◌, ◌<◌, ◌≤◌, length, ap, ◌∙◌, arith}
+use Rattle.std.proofs.Common.{◌≡◌, ◌≤◌, length, ap, ◌∙◌, arith}
 use Rattle.mesh_graph.specs.ListReads.{slice_get-there}
 use Rattle.run_model.specs.LineTexts.{tier_lines}
 use Rattle.view_machine.specs.Machines.{MachineSeen, world_of}
