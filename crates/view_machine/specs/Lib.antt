@@ -9,3 +9,5 @@ pub mod TurnClauses
 pub mod SeatLines
 pub mod TurnKeeps
 pub mod Openings
+pub mod RunEnds
+pub mod RunLines

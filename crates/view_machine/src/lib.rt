@@ -4,6 +4,7 @@
 #![tactic(auto)]
 
 mod machines;
+mod playing;
 mod refusals;
 
 pub use cache_chain::StartRefusal;
