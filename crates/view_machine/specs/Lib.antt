@@ -17,3 +17,6 @@ pub mod TurnKeeps
 pub mod FrameLines
 pub mod FrameSeats
 pub mod LineOutputs
+pub mod Openings
+pub mod RunEnds
+pub mod RunLines
