@@ -1,4 +1,9 @@
 pub mod ConvertLemmas
 pub mod EndingLemmas
 pub mod IndexLemmas
+pub mod PlayLemmas
+pub mod PlayWords
+pub mod RunFailures
+pub mod RunLemmas
+pub mod TakenLemmas
 pub mod WordLemmas

@@ -6,3 +6,7 @@ pub mod Told
 pub mod Numbered
 pub mod Strips
 pub mod Outputs
+pub mod Playing
+pub mod Promises
+pub mod PlayRuns
+pub mod PlayEnds

@@ -6,7 +6,10 @@
 mod commands;
 mod converts;
 mod faults;
+mod meshes;
 mod outputs;
+mod playing;
+mod plays;
 mod refusals;
 mod run;
 mod statuses;

@@ -6,8 +6,6 @@ ghost use Rattle.file_model.specs.Reading.{file_in};
 ghost use Rattle.view_outside.specs.Files.{HasFile, file_bytes};
 ghost use Rattle.view_outside.specs.OnlyRead.{OnlyRead};
 ghost use Rattle.accepted_mesh.specs.MeshView.{IsMeshOf};
-ghost use Rattle.dag_check.specs.Checks.{Checks};
-ghost use Rattle.dag_check.specs.declared.refusals.CheckRefusal.TheVariants as checks;
 ghost use Rattle.text_model.specs.declared.statuses.Status.TheVariants as statuses;
 ghost use Rattle.viewer_program.specs.Commands.{IsKnown};
 ghost use Rattle.viewer_program.specs.Answers.{IsTextOf, IsOfAccepted, IsTextOfKind};
@@ -16,10 +14,11 @@ ghost use Rattle.viewer_program.specs.Outputs.{output_text, IsWritable, text_out
 
 use crate::commands::Command;
 use crate::converts::convert_output;
+use crate::meshes::mesh_of;
 use crate::refusals::{status_of_check, status_of_load};
 use body_loads::LoadRefusal;
-use dag_check::{CheckRefusal, Mesh, check};
-use patch_file::{FileParts, read_index};
+use dag_check::Mesh;
+use patch_file::FileParts;
 use std::alloc::Global;
 use still_texts::{accepted_text, base_text, full_text};
 use text_model::Status;
@@ -32,17 +31,6 @@ pub enum Output {
     Text(Vec<u8>),
     /// A patch file, of these parts.
     File(FileParts),
-}
-
-// The mesh of the file, each body of which is read once.
-fn mesh_of<S: Store>(alloc: Global, store: &mut S, file: u32) -> Result<Mesh, CheckRefusal>
-    requires { HasFile (S.files store.old) file }
-    ensures told { IfSome (file_bytes (S.files store.old) file) (λ bytes. Checks bytes result) }
-    ensures store { OnlyRead checks.ReadFault (S.files store.old) (S.files store.new)
-        (S.faults store.old) (S.faults store.new) result }
-{
-    let index = read_index(alloc, store, file)?;
-    check(alloc, index, store, file)
 }
 
 // A text that was made, or the status that tells why there is none.
