@@ -20,3 +20,5 @@ pub mod LineOutputs
 pub mod Openings
 pub mod RunEnds
 pub mod RunLines
+pub mod FrameSizes
+pub mod ToldChanges

@@ -6,7 +6,9 @@
 mod machines;
 mod playing;
 mod refusals;
+mod sizes;
 
 pub use cache_chain::StartRefusal;
 pub use machines::{Beginning, Machine};
 pub use refusals::RunRefusal;
+pub use sizes::FrameSize;

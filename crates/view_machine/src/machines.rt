@@ -7,6 +7,7 @@ use token_words::PlainTokens;
 use view_outside::Store;
 use wish_board::WishBoard;
 
+mod counting;
 mod frames;
 mod lines;
 mod opening;

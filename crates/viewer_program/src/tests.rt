@@ -24,15 +24,26 @@ mod files;
 mod graphs;
 mod large;
 mod making;
+mod playing;
 mod statuses;
 mod usage;
 mod views;
 
-// A store of one file Q, whose calls of these numbers fail.
-fn store_of(alloc: Global, bytes: &[u8], fail_calls: &[u64]) -> Result<MemoryStore, Fail> {
+// A store of one file Q. The reads and calls of these numbers fail.
+fn store_with(
+    alloc: Global,
+    bytes: &[u8],
+    fail_reads: &[(u64, u32)],
+    fail_calls: &[u64],
+) -> Result<MemoryStore, Fail> {
     let file = NamedFile::new(String::from_str(alloc, "Q")?, bytes.to_vec(alloc)?);
     let files = vec![in alloc; file]?;
-    Ok(MemoryStore::new(files, Vec::new(alloc), fail_calls.to_vec(alloc)?))
+    Ok(MemoryStore::new(files, fail_reads.to_vec(alloc)?, fail_calls.to_vec(alloc)?))
+}
+
+// The same, where only calls fail.
+fn store_of(alloc: Global, bytes: &[u8], fail_calls: &[u64]) -> Result<MemoryStore, Fail> {
+    store_with(alloc, bytes, &[], fail_calls)
 }
 
 fn owned_words(alloc: Global, words: &[&str]) -> Result<Vec<String>, Fail> {
@@ -43,21 +54,32 @@ fn owned_words(alloc: Global, words: &[&str]) -> Result<Vec<String>, Fail> {
     Ok(owned)
 }
 
-// The status of the words over the store, and what was written to a sink of this room.
+// The status of the words over the store with this script, and what was written to a sink of this room.
+fn run_script<S: Store>(
+    alloc: Global,
+    words: &[&str],
+    store: &mut S,
+    script: &str,
+    room: usize,
+) -> Result<(Status, String), Fail> {
+    let owned = owned_words(alloc, words)?;
+    let mut source = MemorySource::new(script.as_bytes().to_vec(alloc)?, 5, Vec::new(alloc));
+    let mut sink = MemorySink::with_room(alloc, room, 7, Vec::new(alloc))?;
+    let status = run_still(alloc, &owned, store, &mut source, &mut sink);
+    match String::from_utf8(sink.bytes().to_vec(alloc)?) {
+        Ok(written) => Ok((status, written)),
+        Err(_) => Err(Fail::from("no text was written")),
+    }
+}
+
+// The same without a script.
 fn run<S: Store>(
     alloc: Global,
     words: &[&str],
     store: &mut S,
     room: usize,
 ) -> Result<(Status, String), Fail> {
-    let owned = owned_words(alloc, words)?;
-    let mut script = MemorySource::new(Vec::new(alloc), 1, Vec::new(alloc));
-    let mut sink = MemorySink::with_room(alloc, room, 7, Vec::new(alloc))?;
-    let status = run_still(alloc, &owned, store, &mut script, &mut sink);
-    match String::from_utf8(sink.bytes().to_vec(alloc)?) {
-        Ok(written) => Ok((status, written)),
-        Err(_) => Err(Fail::from("no text was written")),
-    }
+    run_script(alloc, words, store, "", room)
 }
 
 // The same over a file Q of these bytes.

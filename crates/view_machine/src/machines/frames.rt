@@ -58,7 +58,7 @@ fn shared_bodies<S: Store>(
 
 impl<'a, S: Store> Machine<'a, S> {
     // The session takes steps until its round is done.
-    fn finish_session(&mut self, alloc: Global, session: u32) -> Result<(), NoMemory>
+    pub(super) fn finish_session(&mut self, alloc: Global, session: u32) -> Result<(), NoMemory>
         requires { HasView self.old.seats.sessions session }
         ensures round { OnOk result
             (FinishesRound session self.old.words self.old.seats self.new.words self.new.seats) }
@@ -100,7 +100,7 @@ impl<'a, S: Store> Machine<'a, S> {
     }
 
     // Counts a frame of the session, whose round is done, and marks the round as printed.
-    fn print_session(&mut self, session: u32)
+    pub(super) fn print_session(&mut self, session: u32)
         requires done { IsDoneAt self.old.seats.sessions session }
         requires few { frames_at self.old.seats.sessions session < 2 ^ 63 }
         requires seats { length self.old.seats.sessions ≡ SESSIONS }

@@ -11,6 +11,7 @@ ghost use Rattle.view_machine.specs.Machines.{world_of, run_state, KeepsPlace};
 ghost use Rattle.view_machine.specs.Stops.{StopsAt};
 ghost use Rattle.view_machine.specs.LineTells.{DoesLine};
 ghost use Rattle.view_machine.specs.LineCounts.{CountsTurns, DoesCounted};
+ghost use Rattle.view_machine.specs.ToldChanges.{TellChanges};
 ghost use Rattle.view_machine.specs.TurnClauses.{turn_in, LogsLine};
 
 use crate::machines::Machine;
@@ -67,13 +68,16 @@ impl<'a, S: Store> Machine<'a, S> {
         Ok(text)
     }
 
-    // Each tier makes turns until it is idle, from the lowest to the top, and each turn is logged.
-    fn settle_tiers(&mut self, alloc: Global, log: &mut Vec<TurnLine>) -> Result<(), NoMemory>
+    /// Each tier makes turns until it is idle, from the lowest to the top, and each turn is logged.
+    pub fn settle_tiers(&mut self, alloc: Global, log: &mut Vec<TurnLine>) -> Result<(), NoMemory>
         ensures settles { OnOk result
             (LogsLine (world_of self.old) (run_state self.old) log.old.items log.new.items
             (run_state self.new) (S.faults self.old.chain.store)
             (S.faults self.new.chain.store) (S.taken self.old.chain.store)
             (S.taken self.new.chain.store)) }
+        ensures changes { OnOk result
+            (TellChanges self.old.chain.mesh.lists.index self.old.bytes log.old.items
+            → TellChanges self.old.chain.mesh.lists.index self.old.bytes log.new.items) }
         ensures none { OnErr result
             (StopsAt (world_of self.old) (run_state self.old) (run_state self.new)) }
         ensures place { KeepsPlace self.old self.new }

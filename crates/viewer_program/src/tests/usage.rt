@@ -16,7 +16,13 @@ fn no_commands(rt: HostRuntime) -> Result<(), Fail> {
         &["full", "", "2", "2", "104", "100", "9", "100"][..],
         &["full", "Q", "2", "2", "104", "100", "9"][..],
         &["play", "Q"][..],
+        &["play", "", "144"][..],
         &["play", "Q", "0144"][..],
+        &["play", "Q", "1099511627777"][..],
+        &["play", "Q", "144", "1", "1", "1", "1"][..],
+        &["playw", "Q", "2"][..],
+        &["playw", "Q", "0", "144"][..],
+        &["playw", "Q", "9", "144"][..],
         &["serve", "Q", "144"][..],
         &["make", "3"][..],
     ] {
@@ -32,6 +38,7 @@ fn a_missing_file(rt: HostRuntime) -> Result<(), Fail> {
     for words in [
         &["base", "R"][..],
         &["check", "R"][..],
+        &["play", "R", "144"][..],
         &["full", "R", "2", "2", "104", "100", "9", "100"][..],
     ] {
         let (status, written) = run_on(alloc, words, &square())?;
