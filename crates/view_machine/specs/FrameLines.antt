@@ -4,7 +4,7 @@ use Rattle.std.specs.Prelude.{slice_get, slice_index_or, IfSome, MatchOption, Al
 use Rattle.std.specs.Option.{option_map_or, unwrap_or}
 use Rattle.std.proofs.lemmas.List.{length-map, length-set, map-append, take_more}
 use Rattle.std.proofs.lemmas.List.Elements.{All-head, All-tail}
-use Rattle.std.proofs.lemmas.Option.{same_Some, slice_get-get_or, slice_get_within}
+use Rattle.std.proofs.lemmas.Option.{slice_get-get_or, slice_get_within}
 use Rattle.file_model.specs.declared.fields.PatchField.{PatchField}
 use Rattle.file_model.specs.declared.fields.Try.{Try}
 use Rattle.file_model.specs.Lists.{SeenBody, body_size, no_body}
@@ -24,7 +24,7 @@ use Rattle.frame_writer.specs.Frames.{AreBodiesOf, AddsFrame}
 use Rattle.frame_writer.specs.Frames.{frame_of as text_frame}
 use Rattle.run_model.specs.Worlds.{World, patch_count}
 use Rattle.run_model.specs.States.{State}
-use Rattle.run_model.specs.Safe.{IsHeldAtTop, IsSafe}
+use Rattle.run_model.specs.Safe.{IsSafe}
 use Rattle.run_model.specs.Lines.{DidFrame, Does, top_body, frame_of}
 use Rattle.run_model.specs.PrintedFrames.{frame_held}
 use Rattle.session_seats.specs.Orders.{FinishesRound}

@@ -21,7 +21,7 @@ use Rattle.view_machine.specs.declared.refusals.RunRefusal.{RunRefusal}
 use Rattle.view_machine.specs.declared.refusals.RunRefusal.TheVariants.{Memory, WriteFault}
 use Rattle.view_machine.specs.Machines.{MachineSeen}
 use Rattle.view_machine.specs.Stops.{StopsAt}
-use Rattle.view_machine.specs.LineCounts.{HasNoFailure}
+use Rattle.view_machine.specs.LineCounts.{HasNoFailure, HasNoChange, TellsBodies}
 
 -- ---- how far the sessions have come
 
@@ -55,7 +55,8 @@ pub record FramesRise {S : Type 0} (old new : MachineSeen S) : Type 0 where
 
 -- ---- how a line ends
 
--- the line did this in the state and its text was written; the store's faults are counted, and the bytes that it gave
+-- the line did this in the state and its text was written; the store's faults are counted, and the bytes that it
+-- gave, and no body that is told was found to have changed
 pub record PrintsLine (w : World) (order : Order) (a b : State) (faults_before faults_now taken_before taken_now : ℕ) (before after : Option (List ℕ)) : Type 0 where
   pub did : Did
   pub does : Does w a order did b
@@ -64,6 +65,7 @@ pub record PrintsLine (w : World) (order : Order) (a b : State) (faults_before f
   pub written : after ≡ appended before text
   pub faults : RoseBy (faults_of w did) faults_before faults_now
   pub taken : HasNoFailure (turns_in did) → taken_now ≡ taken_after taken_before (bytes_from_store w did)
+  pub unchanged : TellsBodies w → HasNoChange (turns_in did)
 
 -- there was no memory: the line stopped on its way, and nothing of it was written
 pub record StopsMemory (w : World) (a b : State) (before after : Option (List ℕ)) : Type 0 where
@@ -78,6 +80,7 @@ pub record StopsWriting (w : World) (order : Order) (a b : State) (faults_before
   pub is : IsTextOf did text
   pub part : WritesPart before after text
   pub faults : RoseBy (faults_of w did) faults_before faults_now
+  pub unchanged : TellsBodies w → HasNoChange (turns_in did)
   pub rose : Rose sink_faults sink_faults_now
 
 abbrev pub StopsLine : RunRefusal → World → Order → State → State → ℕ → ℕ → ℕ → ℕ → Option (List ℕ) → Option (List ℕ) → Type 0

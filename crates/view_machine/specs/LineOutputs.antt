@@ -1,5 +1,5 @@
 -- What a line gives, from what the calls of its order promise.
-use Rattle.std.proofs.Common.{◌≡◌, ℕ, ◌+◌, ◌≤◌, Bool, true, false, List, [], length, map, Option, Some, None, Result, Ok, Err, IfOk, OnErr, refl, sym, ap, subst, ◌∙◌, arith}
+use Rattle.std.proofs.Common.{◌≡◌, ℕ, ◌+◌, ◌≤◌, Bool, true, false, List, [], length, Option, Some, None, Result, Ok, Err, IfOk, OnErr, refl, sym, ap, subst, ◌∙◌, arith}
 use Rattle.std.specs.Prelude.{OnOk, IfErr}
 use Rattle.std.specs.Result.{IsErrAnd}
 use Rattle.std.proofs.lemmas.List.{length-map}
@@ -291,6 +291,7 @@ line_printed w order a b text faults faults_now taken taken_now before after lin
   is = line.is;
   written = written;
   faults = line.counts.faults;
+  unchanged = line.counts.unchanged;
   taken = line.counts.taken;
 }
 
@@ -304,6 +305,7 @@ line_unwritten w order a b text faults faults_now taken taken_now sink_faults si
   is = line.is;
   part = part;
   faults = line.counts.faults;
+  unchanged = line.counts.unchanged;
   rose = rose;
 }
 

@@ -8,7 +8,7 @@ use Rattle.file_model.specs.Lists.{IndexLists, SeenBody}
 use Rattle.mesh_model.specs.Graph.{outgoing}
 use Rattle.mesh_model.specs.Meshes.{MeshLists, IsMesh}
 use Rattle.session_model.specs.Sessions.{SessionState}
-use Rattle.token_words.specs.PlainTokens.{words_seen, epoch_in, is_user_in, is_pinned_in, IsStart}
+use Rattle.token_words.specs.PlainTokens.{words_seen, epoch_in, is_user_in, IsStart}
 use Rattle.token_words.specs.declared.entries.Entry.{Entry}
 use Rattle.token_words.specs.declared.plain_words.PlainTokens.{PlainTokens}
 use Rattle.token_words.specs.declared.session_sets.TheConstants.{SESSIONS}
@@ -16,7 +16,7 @@ use Rattle.tier_model.specs.Places.{is_marked, marked_bytes, load_of}
 use Rattle.tier_model.specs.Tiers.{TierState, load, IsTier, IsBodyFor, sizes_of, base_marks}
 use Rattle.tier_model.specs.Ranks.{Posted}
 use Rattle.tier_model.specs.Changes.{fresh}
-use Rattle.tier_model.specs.Chains.{Chain, bodies_at, opened_top, opened_tiers, opened}
+use Rattle.tier_model.specs.Chains.{bodies_at, opened_top, opened_tiers, opened}
 use Rattle.tier_model.specs.BodyLaws.{marks_of}
 use Rattle.tier_model.specs.OpeningLaws.{load_of_held}
 use Rattle.wish_board.specs.Boards.{BoardSeen, empty_board}
@@ -25,7 +25,7 @@ use Rattle.accepted_mesh.specs.MeshView.{MeshSeen}
 use Rattle.cache_chain.specs.BaseLaws.{base_listed}
 use Rattle.cache_chain.specs.ChainStates.{IsFileBody, AreTiersOf}
 use Rattle.cache_chain.specs.Opening.{IsOpened}
-use Rattle.run_model.specs.Worlds.{World, is_base, IsWorld, HoldsBase, AreBaseBodies}
+use Rattle.run_model.specs.Worlds.{World, IsWorld, HoldsBase, AreBaseBodies}
 use Rattle.run_model.specs.States.{State, opening}
 use Rattle.run_model.specs.Safe.{IsSafe}
 use Rattle.run_model.specs.Kept.{TakeWishes}
@@ -56,8 +56,10 @@ pub record BeginsOver (mesh : MeshLists) (words : PlainTokens) (seats : SeatsSee
 abbrev pub world_for : MeshLists → Option (List ℕ) → List ℕ → ℕ → World
 world_for mesh bytes budgets width = record { mesh = mesh; bodies = told_bodies mesh.index bytes; budgets = budgets; width = width }
 
--- a run opens here, over the mesh and its file
+-- a run opens here, over the mesh and its file, in a safe state
 pub record OpensOver {S : Type 0} (over : MeshSeen) (number : ℕ) (told : Option (List ℕ)) (m : MachineSeen S) : Type 0 where
+  pub world : IsWorld (world_of m)
+  pub safe : IsSafe (world_of m) (run_state m)
   pub opening : IsOpening (world_of m) (run_state m)
   pub closed : m.seats ≡ empty_seats over.lists
   pub blank : m.board ≡ empty_board over.lists

@@ -13,12 +13,16 @@ use Rattle.run_model.specs.LineTexts.{AreTextsOf}
 use Rattle.run_model.specs.RunTexts.{turns_in, faults_of, bytes_from_store}
 use Rattle.view_machine.specs.declared.refusals.RunRefusal.{RunRefusal}
 use Rattle.view_machine.specs.declared.refusals.RunRefusal.TheVariants.{Memory, WriteFault}
-use Rattle.view_machine.specs.LineCounts.{HasNoFailure}
+use Rattle.view_machine.specs.LineCounts.{HasNoFailure, HasNoChange, TellsBodies}
 use Rattle.view_machine.specs.Stops.{StopsAt}
 
 -- in no line a fetch failed
 abbrev pub HaveNoFailure : List Did → Type 0
 HaveNoFailure dids = AllByRecursion (λ (did : Did). HasNoFailure (turns_in did)) dids
+
+-- no line found that a body has changed
+abbrev pub HaveNoChange : List Did → Type 0
+HaveNoChange dids = AllByRecursion (λ (did : Did). HasNoChange (turns_in did)) dids
 
 -- the lines did this one after the other, and their text was written; the store's faults are counted, and the bytes that
 -- it gave
@@ -30,6 +34,7 @@ pub record RanLines (w : World) (orders : List Order) (a b : State) (faults_befo
   pub written : after ≡ appended before text
   pub faults : RoseBy (sum_by (faults_of w) dids) faults_before faults_now
   pub taken : HaveNoFailure dids → taken_now ≡ taken_after taken_before (sum_by (bytes_from_store w) dids)
+  pub unchanged : TellsBodies w → HaveNoChange dids
 
 -- there was no memory: a line stopped on its way. Those before it ran, and exactly their text was written
 pub record StopsRunMemory (w : World) (orders : List Order) (a b : State) (faults_before faults_now : ℕ) (before after : Option (List ℕ)) : Type 0 where
@@ -44,6 +49,7 @@ pub record StopsRunMemory (w : World) (orders : List Order) (a b : State) (fault
   pub texts : AreTextsOf dids text
   pub written : after ≡ appended before text
   pub faults : RoseBy (sum_by (faults_of w) dids) faults_before faults_now
+  pub unchanged : TellsBodies w → HaveNoChange dids
   pub stops : StopsAt w reached b
 
 -- the sink failed in the text of a line: the lines up to and with it ran, and a proper prefix of their text was written
@@ -57,6 +63,7 @@ pub record StopsRunWriting (w : World) (orders : List Order) (a b : State) (faul
   pub texts : AreTextsOf dids text
   pub part : WritesPart before after text
   pub faults : RoseBy (sum_by (faults_of w) dids) faults_before faults_now
+  pub unchanged : TellsBodies w → HaveNoChange dids
   pub rose : Rose sink_faults sink_faults_now
 
 abbrev pub StopsRun : RunRefusal → World → List Order → State → State → ℕ → ℕ → ℕ → ℕ → Option (List ℕ) → Option (List ℕ) → Type 0

@@ -3,7 +3,7 @@ use Rattle.std.proofs.Common.{◌≡◌, ℕ, suc, ◌+◌, ◌^◌, ◌<◌, �
 use Rattle.std.specs.Prelude.{sum_by}
 use Rattle.std.specs.Option.{option_map_or}
 use Rattle.std.proofs.Math.Path.{fun_ext}
-use Rattle.std.proofs.lemmas.List.{length-append, drop_all}
+use Rattle.std.proofs.lemmas.List.{length-append}
 use Rattle.std.proofs.lemmas.List.Sums.{sum_by-append, sum_by-cons}
 use Rattle.patch_file.specs.Written.{WritesPart-after, appended-after}
 use Rattle.script_model.specs.declared.modes.Mode.{Mode}
@@ -26,9 +26,9 @@ use Rattle.session_seats.specs.Seats.{at_seat}
 use Rattle.view_machine.specs.declared.refusals.RunRefusal.{RunRefusal}
 use Rattle.view_machine.specs.declared.refusals.RunRefusal.TheVariants.{Memory, WriteFault}
 use Rattle.view_machine.specs.Machines.{MachineSeen, world_of, run_state, KeepsPlace}
-use Rattle.view_machine.specs.LineCounts.{HasNoFailure, rises_none}
+use Rattle.view_machine.specs.LineCounts.{HasNoFailure, HasNoChange, rises_none}
 use Rattle.view_machine.specs.LineEnds.{stage_of, history_of, frames_at, FewFrames, FramesRise, PrintsLine, StopsMemory, StopsWriting, StopsLine}
-use Rattle.view_machine.specs.RunEnds.{HaveNoFailure, RanLines, StopsRunMemory, StopsRunWriting, StopsRun}
+use Rattle.view_machine.specs.RunEnds.{HaveNoFailure, HaveNoChange, RanLines, StopsRunMemory, StopsRunWriting, StopsRun}
 
 -- ---- lists of lines
 
@@ -44,6 +44,10 @@ texts_more _ _ did more (OneText {did = d} {dids = ds} text rest first others) i
 no_failure_before : (dids : List Did) (did : Did) → HaveNoFailure (dids ++ did ∷ []) → HaveNoFailure dids × HasNoFailure (turns_in did)
 no_failure_before [] did none = (tt, none.0)
 no_failure_before (d ∷ ds) did none = let others = no_failure_before ds did none.1 in ((none.0, others.0), others.1)
+
+no_change_more : (dids : List Did) (did : Did) → HaveNoChange dids → HasNoChange (turns_in did) → HaveNoChange (dids ++ did ∷ [])
+no_change_more [] did before here = (here, tt)
+no_change_more (d ∷ ds) did before here = (before.0, no_change_more ds did before.1 here)
 
 sum_more : (f : Did → ℕ) (dids : List Did) (did : Did) → sum_by f (dids ++ did ∷ []) ≡ sum_by f dids + f did
 sum_more f dids did = let both = sum_by-append f dids (did ∷ []) in let one = sum_by-cons f did [] in omega arith
@@ -73,6 +77,7 @@ ran_none w a faults taken told = record {
   written = sym (appended-nil told);
   faults = rises_none faults faults (omega arith);
   taken = λ none. sym (taken_after-zero taken);
+  unchanged = λ tells. tt;
 }
 
 faults_more : (w : World) (dids : List Did) (did : Did) (f g h : ℕ) → RoseBy (sum_by (faults_of w) dids) f g → RoseBy (faults_of w did) g h → RoseBy (sum_by (faults_of w) (dids ++ did ∷ [])) f h
@@ -87,6 +92,7 @@ ran_more w orders order a b c f g h t u v before between after ran prints = reco
   texts = texts_more ran.dids ran.text prints.did prints.text ran.texts prints.is;
   written = appended-after before between after ran.text prints.text ran.written prints.written;
   faults = faults_more w ran.dids prints.did f g h ran.faults prints.faults;
+  unchanged = λ tells. no_change_more ran.dids prints.did (ran.unchanged tells) (prints.unchanged tells);
   taken = λ none.
       let parts = no_failure_before ran.dids prints.did none in
       prints.taken parts.1
@@ -169,6 +175,7 @@ module _ {S : Type 0} (mode : Mode) (old mid : MachineSeen S) (done : List Line)
         texts = played.ran.texts;
         written = here.nothing ∙ played.ran.written;
         faults = risen_later (sum_by (faults_of (world_of old)) played.ran.dids) f g h played.ran.faults later;
+        unchanged = played.ran.unchanged;
         stops = here.stops;
       }
 
@@ -188,6 +195,7 @@ module _ {S : Type 0} (mode : Mode) (old mid : MachineSeen S) (done : List Line)
         texts = texts_more ran.dids ran.text here.did here.text ran.texts here.is;
         part = WritesPart-after before between after ran.text here.text ran.written here.part;
         faults = faults_more w ran.dids here.did f g h ran.faults here.faults;
+        unchanged = λ tells. no_change_more ran.dids here.did (ran.unchanged tells) (here.unchanged tells);
         rose = Rose-earlier sink_before sink_between sink_now later here.rose;
       }
 
@@ -260,11 +268,3 @@ module _ {S : Type 0} (old mid : MachineSeen S) (lines : List Line) (k : ℕ) (l
   run_stops WriteFault new h after sink_before sink_between sink_now later sink_later stop =
       subst (λ (ls : List Line). StopsRunWriting (world_of old) (orders_of ls) (run_state old) (run_state new) f h sink_before sink_now before after) (sym lines_are)
       (stops_writing plays.mode old mid plays.done line rest f g t u before between here new after h sink_before sink_between sink_now sink_later stop)
-
-pub plays_all : {S : Type 0} (old now : MachineSeen S) (lines : List Line) (k f g t u : ℕ) (before after : Option (List ℕ)) → PlaysTo old now lines k f g t u before after → length lines ≤ k → RanLines (world_of old) (orders_of lines) (run_state old) (run_state now) f g t u before after
-plays_all old now lines k f g t u before after plays past =
-    let all : plays.done ≡ lines = sym (append-nil plays.done) ∙ ap (λ (ls : List Line). plays.done ++ ls) (sym (drop_all k lines past)) ∙ sym plays.split in
-    subst (λ (ls : List Line). RanLines (world_of old) (orders_of ls) (run_state old) (run_state now) f g t u before after) all plays.played.ran
-
-pub plays_place : {S : Type 0} (old now : MachineSeen S) (lines : List Line) (k f g t u : ℕ) (before after : Option (List ℕ)) → PlaysTo old now lines k f g t u before after → KeepsPlace old now
-plays_place old now lines k f g t u before after plays = plays.played.place

@@ -169,7 +169,7 @@ module _ (mesh : MeshLists) (bytes : Option (List ℕ)) (tiers : List TierState)
     -- the store's counts rise by the turn
     pub turn_counts : (k : ℕ) (answer : Turn) → MakesTurn u k answer first last → CountsTurns w ((k, answer) ∷ []) faults faults_now taken taken_now
     unfolding state_of
-    turn_counts k answer turn = one_counts w u k answer first last is.safe.many (λ t at. (is.safe.set_up k t at).made.sizes) turn
+    turn_counts k answer turn = one_counts w u k answer first last is.safe.many (λ t at. (is.safe.set_up k t at).made.sizes) setting_is.index setting_is.bodies turn
 
     pub turn_stops : (k : ℕ) → TakesWishes u.board k tiers now → Stays (epoch_in words) (epoch_in words_now) → SetsStay (is_user_in words) (is_user_in words_now) → StopsAt w (state_in tiers words seats board) (state_in now words_now seats board)
     unfolding state_of

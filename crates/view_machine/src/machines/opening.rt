@@ -8,7 +8,9 @@ ghost use Rattle.tier_model.specs.Tiers.{IsWidth};
 ghost use Rattle.cache_chain.specs.ChainStates.{states_of, AreTiersOf};
 ghost use Rattle.cache_chain.specs.Refusals.{base_size, NamesBudget, NamesChange, NamesBodyFault};
 ghost use Rattle.cache_chain.specs.declared.refusals.StartRefusal.TheVariants.{Budget};
-ghost use Rattle.view_machine.specs.Machines.{world_of};
+ghost use Rattle.run_model.specs.Worlds.{IsWorld};
+ghost use Rattle.run_model.specs.Safe.{IsSafe};
+ghost use Rattle.view_machine.specs.Machines.{world_of, run_state};
 ghost use Rattle.view_machine.specs.Openings.{world_for, HaveOpened, BeginsOver, OpensOver};
 
 use crate::machines::Machine;
@@ -179,10 +181,12 @@ impl<'a, S: Store> Machine<'a, S> {
         Ok(Machine::over_tiers(first, mesh, tiers, store, file))
     }
 
-    /// The store, which the machine was lent.
+    /// The store, which the machine was lent. The state of the run was a safe one to the end.
     pub fn into_store(self) -> &'a mut S
         ensures store { result.now ≡ self.entry.chain.store }
         ensures lender { result.ghost_name ≡ self.entry.chain.lender }
+        ensures world { IsWorld (world_of self.entry) }
+        ensures safe { IsSafe (world_of self.entry) (run_state self.entry) }
     {
         let Machine {
             chain,

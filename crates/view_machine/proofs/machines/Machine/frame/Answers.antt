@@ -1,7 +1,4 @@
 use Rattle.std.proofs.Common.{ℕ, ◌<◌, ◌^◌, sym, subst}
-use Rattle.frame_writer.proofs.LineLemmas.{on_err}
-use Rattle.session_seats.specs.Seats.{IsDoneAt}
-use Rattle.view_machine.specs.LineEnds.{frames_at}
 use Rattle.view_machine.specs.LineHistories.{frames_kept}
 use Rattle.view_machine.specs.FrameLines.{frame_line, place_then, finished_done, finished_many, told_then}
 use Rattle.view_machine.proofs.machines.Machine.frame.Goals as goal

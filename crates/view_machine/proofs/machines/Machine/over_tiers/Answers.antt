@@ -31,6 +31,8 @@ pub returns-clause-opens : goal.returns-clause-opens
 returns-clause-opens g c =
     let e = c.from_parts-chain.ensures in
     record {
+      world = (opens g c).is.world;
+      safe = (opens g c).is.safe;
       opening = (opens g c).opening;
       closed = c.requires.first.closed;
       blank = c.requires.first.blank;

@@ -1,7 +1,7 @@
 -- Each line that is played is a line more of the run.
 use Rattle.std.proofs.Common.{◌<◌, ◌^◌, refl, ◌∙◌, arith}
 use Rattle.std.proofs.lemmas.Result.{err_from_is_err_and}
-use Rattle.view_machine.specs.RunLines.{plays_none, next_line, line_allowed, line_few, line_frames, plays_on, run_stops, plays_all, plays_place}
+use Rattle.view_machine.specs.RunLines.{plays_none, next_line, line_allowed, line_few, line_frames, plays_on, run_stops}
 use Rattle.view_machine.proofs.machines.Machine.play_lines.Goals as goal
 
 pub plays-init : goal.plays-init

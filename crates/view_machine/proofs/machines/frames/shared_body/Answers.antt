@@ -1,5 +1,5 @@
 use Rattle.std.specs.Arc.{arc_value}
-use Rattle.view_machine.specs.FrameLines.{body_not_missing, body_found}
+use Rattle.view_machine.specs.FrameLines.{body_not_missing}
 use Rattle.view_machine.proofs.machines.frames.shared_body.Goals as goal
 
 pub unreachable-requires : goal.unreachable-requires
