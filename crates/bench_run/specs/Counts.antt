@@ -1,6 +1,6 @@
 -- What a bench run counts, and how large the strip's base is.
 use Rattle.text_model.specs.BenchText.{FrameCounts, BenchCounts}
-use Rattle.bench_run.specs.declared.summaries.FrameSize.{FrameSize}
+use Rattle.view_machine.specs.declared.sizes.FrameSize.{FrameSize}
 use Rattle.bench_run.specs.declared.summaries.RunCounts.{RunCounts}
 
 abbrev pub frame_seen : FrameSize → FrameCounts

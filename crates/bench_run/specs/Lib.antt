@@ -3,3 +3,8 @@ pub mod StripChecks
 pub mod Counts
 pub mod BaseSizes
 pub mod Settled
+pub mod SaidBodies
+pub mod BaseBytes
+pub mod Begun
+pub mod Ran
+pub mod Counted

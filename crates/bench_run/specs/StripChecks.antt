@@ -1,6 +1,6 @@
 -- What is read of the strip's file from a store that never fails, and what its check answers: nothing but want of memory
 -- stands in their way.
-use Rattle.std.proofs.Common.{◌≡◌, ℕ, ◌≤◌, List, [], ◌∷◌, Result, Ok, Err, refl, sym, ap, subst, ◌∙◌, arith}
+use Rattle.std.proofs.Common.{◌≡◌, ℕ, ◌<◌, ◌≤◌, List, [], ◌∷◌, length, Result, Ok, Err, refl, sym, ap, subst, ◌∙◌, arith}
 use Rattle.std.specs.Prelude.{Some, IfErr, IfSome, MatchResult}
 use Rattle.std.specs.List.{flat_map}
 use Rattle.file_model.specs.declared.refusals.ReadRefusal.{ReadRefusal}
@@ -65,3 +65,7 @@ module _ (c : ℕ) (some : 2 ≤ c) (few : c ≤ 16384) where
   pub index_told : (files : List Named) → files ≡ strip_files c → (index : IndexLists) → index ≡ (bench_file c).index → IfSome (file_bytes (Some files) 0) (λ bytes. index_in bytes ≡ Ok index)
   index_told files are index is =
       subst (λ (fs : List Named). IfSome (file_bytes (Some fs) 0) (λ bytes. index_in bytes ≡ Ok index)) (sym are) (index_is_read ∙ ap (λ (i : IndexLists). Ok i) (sym is))
+
+-- file 0 is there
+pub has_strip : (c : ℕ) (files : List Named) → files ≡ strip_files c → 0 < length files
+has_strip c files are = let many = ap length are in omega (arith, many)

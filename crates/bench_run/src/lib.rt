@@ -3,9 +3,14 @@
 
 mod bases;
 mod growing;
+mod runs;
 mod strips;
 mod summaries;
 mod sure;
 
+pub use runs::bench;
 pub use strips::{strip_mesh, strip_store};
 pub use sure::SureStore;
+
+#[cfg(test)]
+mod tests;

@@ -8,15 +8,7 @@ ghost use Rattle.bench_run.specs.Counts.{counts_seen, frame_seen};
 use frame_writer::{Part, add_line};
 use grid_vertex::NoMemory;
 use std::alloc::Global;
-
-/// How large a frame is: the nodes of its cut, its patches, its triangles, and its open edges.
-#[derive(Clone, Copy, Debug, PartialEq, Eq)]
-pub struct FrameSize {
-    pub nodes: u64,
-    pub patches: u64,
-    pub triangles: u64,
-    pub open_edges: u64,
-}
+use view_machine::FrameSize;
 
 /// What a bench run counts: the strip's columns, its file, its base, the turns until the tier settled, and the
 /// frame behind that.

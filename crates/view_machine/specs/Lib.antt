@@ -21,4 +21,3 @@ pub mod Openings
 pub mod RunEnds
 pub mod RunLines
 pub mod FrameSizes
-pub mod ToldChanges

@@ -11,7 +11,6 @@ ghost use Rattle.view_machine.specs.Machines.{world_of, run_state, KeepsPlace};
 ghost use Rattle.view_machine.specs.Stops.{StopsAt};
 ghost use Rattle.view_machine.specs.LineTells.{DoesLine};
 ghost use Rattle.view_machine.specs.LineCounts.{CountsTurns, DoesCounted};
-ghost use Rattle.view_machine.specs.ToldChanges.{TellChanges};
 ghost use Rattle.view_machine.specs.TurnClauses.{turn_in, LogsLine};
 
 use crate::machines::Machine;
@@ -75,9 +74,6 @@ impl<'a, S: Store> Machine<'a, S> {
             (run_state self.new) (S.faults self.old.chain.store)
             (S.faults self.new.chain.store) (S.taken self.old.chain.store)
             (S.taken self.new.chain.store)) }
-        ensures changes { OnOk result
-            (TellChanges self.old.chain.mesh.lists.index self.old.bytes log.old.items
-            → TellChanges self.old.chain.mesh.lists.index self.old.bytes log.new.items) }
         ensures none { OnErr result
             (StopsAt (world_of self.old) (run_state self.old) (run_state self.new)) }
         ensures place { KeepsPlace self.old self.new }

@@ -10,7 +10,6 @@ use Rattle.session_seats.specs.Seats.{SeatsSeen}
 use Rattle.view_machine.specs.Machines.{MachineSeen, world_of, run_state, world_with, state_in, KeepsPlace, IsMachine}
 use Rattle.view_machine.specs.MachineLaws.{keeps_wishes, is_tied}
 use Rattle.view_machine.specs.Stops.{StopsAt}
-use Rattle.view_machine.specs.ToldChanges.{TellChanges, settling_tells_changes}
 use Rattle.view_machine.specs.TurnClauses.{LogsLine, settles_either, if_ok_log, if_err_both, settling_is, settling_counts, settling_stops}
 use Rattle.view_machine.specs.TurnKeeps.{StaysMachine, turns_keep}
 use Rattle.view_machine.proofs.machines.Machine.settle_tiers.Goals as goal
@@ -97,12 +96,6 @@ invariant_of-self g c = (kept g c).is
 pub returns-clause-settles : goal.returns-clause-settles
 returns-clause-settles g c =
     subst (λ (m : MachineSeen g.row.S.Denot). OnOk c.settle.result (LogsLine (world_of m) (run_state m) c.args.log.now.items c.settle.new.log.items (state_in (now g c) (words_now g c) (seats g c) (board g c)) (g.S.Store.faults m.chain.store) (g.S.Store.faults c.settle.new.self.store) (g.S.Store.taken m.chain.store) (g.S.Store.taken c.settle.new.self.store))) c.self.view_is (settles g c)
-
-pub returns-clause-changes : goal.returns-clause-changes
-returns-clause-changes g c =
-    subst (λ (m : MachineSeen g.row.S.Denot). OnOk c.settle.result (TellChanges m.chain.mesh.lists.index m.bytes c.args.log.now.items → TellChanges m.chain.mesh.lists.index m.bytes c.settle.new.log.items)) c.self.view_is
-    (if_ok_log c.settle.result (TellChanges (mesh g c).index (bytes g c) c.args.log.now.items → TellChanges (mesh g c).index (bytes g c) c.settle.new.log.items)
-    (λ logs. settling_tells_changes _ _ _ _ c.args.log.now.items c.settle.new.log.items logs) c.settle.ensures.settled)
 
 pub returns-clause-none : goal.returns-clause-none
 returns-clause-none g c =
