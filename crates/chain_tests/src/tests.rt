@@ -62,3 +62,6 @@ fn a_fault_in_the_second_base_body_stops_the_start(rt: HostRuntime) -> Result<()
         }
     }
 }
+
+mod rows;
+mod scenes;

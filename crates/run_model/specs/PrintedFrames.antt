@@ -122,23 +122,26 @@ chosen_triangles test first at (f ∷ fs) (b ∷ bs) are =
 
 -- ---- what is held in a safe state
 
+-- the body of a patch that is held at the top
+pub held_body : (w : World) (c : State) (p : ℕ) (held : IsHeldAtTop w c p) → top_body c.chain.tiers p ≡ held.body
+held_body w c p held =
+    ap (λ (o : Option TierState). option_map_or (λ (top : TierState). unwrap_or (slice_index_or top.held p None) no_body) o no_body) held.is_top
+    ∙ ap (λ (o : Option SeenBody). unwrap_or o no_body) (body_is_there held.top.held p held.body held.holds)
+
+-- each patch of the frame of a session's round is held
+pub frame_held : (w : World) (c : State) → IsSafe w c → (i : ℕ) (t : SessionState) → c.sessions i ≡ Some t → (r : Refining) → t.round ≡ Some r → (p : ℕ) → is_among (cut_patches r) p ≡ true → IsHeldAtTop w c p
+frame_held w c safe i t at r there p among =
+    let running = (safe.seats i t at).running r there in
+    elim (frame_is_base_or_locked r running.refining p among) [
+      | inl base ↦ safe.base_is_held p (subst (λ (m : MeshLists). is_from m.index.fields m.root p ≡ true) (running_mesh w.mesh t r running) base)
+      | inr held ↦ safe.locked_are_held i t p at (ap (λ (o : Option Refining). is_left_over t p || option_map_or (λ (q : Refining). round_locks q p) o false) there ∙ or_right (is_left_over t p) (round_locks r p) held)
+    ]
+
 module _ (w : World) (bodies : List BodyLists) (is_told : IsTold w bodies) where
   held_lists : (c : State) (p : ℕ) → IsHeldAtTop w c p → slice_get bodies p ≡ Some (top_body c.chain.tiers p).lists
   held_lists c p held =
-      let is : top_body c.chain.tiers p ≡ held.body =
-      ap (λ (o : Option TierState). option_map_or (λ (top : TierState). unwrap_or (slice_index_or top.held p None) no_body) o no_body) held.is_top
-      ∙ ap (λ (o : Option SeenBody). unwrap_or o no_body) (body_is_there held.top.held p held.body held.holds) in
       subst (λ (o : Option (List BodyLists)). IfSome o (λ bs. slice_get bs p ≡ Some held.body.lists)) is_told.told held.of_file.told
-      ∙ ap (λ (b : SeenBody). Some b.lists) (sym is)
-
-  -- each patch of the frame of a session's round is held
-  frame_held : (c : State) → IsSafe w c → (i : ℕ) (t : SessionState) → c.sessions i ≡ Some t → (r : Refining) → t.round ≡ Some r → (p : ℕ) → is_among (cut_patches r) p ≡ true → IsHeldAtTop w c p
-  frame_held c safe i t at r there p among =
-      let running = (safe.seats i t at).running r there in
-      elim (frame_is_base_or_locked r running.refining p among) [
-        | inl base ↦ safe.base_is_held p (subst (λ (m : MeshLists). is_from m.index.fields m.root p ≡ true) (running_mesh w.mesh t r running) base)
-        | inr held ↦ safe.locked_are_held i t p at (ap (λ (o : Option Refining). is_left_over t p || option_map_or (λ (q : Refining). round_locks q p) o false) there ∙ or_right (is_left_over t p) (round_locks r p) held)
-      ]
+      ∙ ap (λ (b : SeenBody). Some b.lists) (sym (held_body w c p held))
 
   module _ (view : ViewSeen) (tries : List Try) (owed : List ℕ) where
     abbrev round : Refining
@@ -152,7 +155,7 @@ module _ (w : World) (bodies : List BodyLists) (is_told : IsTold w bodies) where
     bodies_at c safe i t at there k f here passes =
         let number : k ≡ 0 + k = omega arith in
         let among : is_among (cut_patches round) k ≡ true = among_passing (leads_out in_cut) w.mesh.index.fields k ∙ ap (λ (o : Option PatchField). option_map_or (leads_out in_cut) o false) here ∙ passes in
-        held_lists c k (frame_held c safe i t at round there k among) ∙ ap (λ (n : ℕ). Some (top_body c.chain.tiers n).lists) number
+        held_lists c k (frame_held w c safe i t at round there k among) ∙ ap (λ (n : ℕ). Some (top_body c.chain.tiers n).lists) number
 
     shows_round : (c : State) → IsSafe w c → (i : ℕ) (t : SessionState) → c.sessions i ≡ Some t → t.round ≡ Some round → pending_ask round ≡ NothingAsked → ShowsRound (told_file w bodies) (view_rules view w.mesh) (frame_of c.chain.tiers i t round)
     unfolding rules_of frame_of cut_of cut_patches

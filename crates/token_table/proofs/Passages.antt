@@ -1,8 +1,9 @@
 -- How seats are made, visit, end and are gathered.
-use Rattle.std.proofs.Common.{◌≡◌, ℕ, zero, suc, ◌+◌, ◌*◌, ◌<◌, ◌≤◌, true, false, List, [], ◌∷◌, length, get_or, set, refl, sym, ap, ◌∙◌, inl, inr, arith, Some, None, length-append}
+use Rattle.std.proofs.Common.{◌≡◌, ℕ, zero, suc, ◌+◌, ◌*◌, ◌%◌, ◌<◌, ◌≤◌, true, false, List, [], ◌∷◌, length, get_or, set, refl, sym, ap, ◌∙◌, inl, inr, arith, Some, None, length-append}
 use Rattle.std.specs.Prelude.{nat_eq}
 use Rattle.std.proofs.lemmas.List.Elements.{All-nil, All-push}
 use Rattle.std.proofs.lemmas.Bool.Decides.{eqb_tells, leb_tells}
+use Rattle.std.proofs.Math.ListN.{get_or-map}
 use mathlib.Core.Option.{some}
 use lib.ListN.{get_elem?}
 use Rattle.atomic_table.proofs.Lists.{at_set}
@@ -13,7 +14,7 @@ use Rattle.token_table.specs.declared.knowledge.Desk.{Desk}
 use Rattle.token_table.specs.declared.knowledge.View.{View}
 use Rattle.token_table.specs.declared.knowledge.View.TheVariants.{Spent, Session, Keeper}
 use Rattle.token_table.specs.Known.{has, AreTries, IsHolder, IsDesk, total, own_uses, one_if, desk_allowance, is_made, of_guest}
-use Rattle.token_table.specs.WordRule.{IsKept, Holds, opened}
+use Rattle.token_table.specs.WordRule.{IsKept, Holds, opened_at}
 use Rattle.token_table.specs.Changes.{newcomer, with_made, with_guest, with_ended, making, made_next, welcoming, ending, alone, leaving}
 use Rattle.token_table.proofs.Totals.{total-push}
 use Rattle.token_table.proofs.Orders.{no_tries}
@@ -152,40 +153,47 @@ module _ (S : Type 0) (count id : ℕ) (desk : Desk) where
 
 -- the words at the making: each patch that is there is pinned
 abbrev pub AreOpened : List ℕ → List ℕ → Type 0
-AreOpened epochs words = (p : ℕ) → p < length epochs → get_or words p 0 ≡ get_or epochs p 0 * 4294967296 + get_or epochs p 0
+AreOpened epochs words = (p : ℕ) → p < length epochs → get_or words p 0 ≡ get_or epochs p 0 * 4294967296 + get_or epochs p 0 % 2
 
-pub starts : (S : Type 0) (epochs words : List ℕ) → ((p : ℕ) → get_or epochs p 0 ≤ 1) → length words ≡ length epochs → AreOpened epochs words
-    → Holds {S = S} (length epochs) (opening words [] (Keeper (opened epochs)))
+-- the pin of a patch at the making
+pin-opened : (epochs : List ℕ) (p : ℕ) → get_or (opened_at epochs).pins p 0 ≡ get_or epochs p 0 % 2
+pin-opened epochs p = get_or-map (λ (epoch : ℕ). epoch % 2) epochs p 0
+
+pub opened_fits : (epochs : List ℕ) → ((p : ℕ) → get_or epochs p 0 ≤ 4294967294) → IsDesk (opened_at epochs)
+opened_fits epochs small = record {
+  last = small;
+  pins = λ p. let pin = pin-opened epochs p in omega arith;
+  pinned = λ p pin. let odd : get_or epochs p 0 % 2 ≡ 1 = sym (pin-opened epochs p) ∙ pin in rw odd refl;
+  made = omega arith;
+  guest = tt;
+  ended = All-nil (λ (session : Ended). AreTries epochs session.tries);
+  misses = All-nil (λ (miss : ℕ × ℕ). 1 ≤ miss.1);
+}
+
+pub starts : (S : Type 0) (epochs words : List ℕ) → ((p : ℕ) → get_or epochs p 0 ≤ 4294967294) → length words ≡ length epochs → AreOpened epochs words
+    → Holds {S = S} (length epochs) (opening words [] (Keeper (opened_at epochs)))
 unfolding total
 starts S epochs words small many are = (
   0,
-  opened epochs,
+  opened_at epochs,
   record {
     sits = refl;
     only = λ seat other there. first seat other there;
-    fits = record {
-      last = λ p. let least = small p in omega arith;
-      pins = small;
-      pinned = λ p pin. rw pin refl;
-      made = omega arith;
-      guest = tt;
-      ended = All-nil (λ (session : Ended). AreTries epochs session.tries);
-      misses = All-nil (λ (miss : ℕ × ℕ). 1 ≤ miss.1);
-    };
+    fits = opened_fits epochs small;
     holders = λ seat own there. nobody seat own there;
     many = many;
     known = refl;
-    word_is = λ p below. let is = are p below in omega arith;
+    word_is = λ p below. let is = are p below in let pin = pin-opened epochs p in omega arith;
     allowances = refl;
     numbers = λ n. let none = none_made n in omega arith;
   },
 )
   where
-    first : (seat : ℕ) (other : Desk) → get_elem? (Keeper (opened epochs) ∷ []) seat ≡ some (Keeper other) → seat ≡ 0
+    first : (seat : ℕ) (other : Desk) → get_elem? (Keeper (opened_at epochs) ∷ []) seat ≡ some (Keeper other) → seat ≡ 0
     first zero other there = refl
     first (suc seat) other there = absurd (cc)
 
-    nobody : (seat : ℕ) (own : Own) → get_elem? (Keeper (opened epochs) ∷ []) seat ≡ some (Session own) → IsHolder epochs own
+    nobody : (seat : ℕ) (own : Own) → get_elem? (Keeper (opened_at epochs) ∷ []) seat ≡ some (Session own) → IsHolder epochs own
     nobody zero own there = absurd (cc)
     nobody (suc seat) own there = absurd (cc)
 

@@ -1,5 +1,5 @@
 -- The rule of the words, which holds between any two steps.
-use Rattle.std.specs.Prelude.{◌≡◌, ℕ, ◌+◌, ◌*◌, ◌<◌, List, [], length, slice_index, None}
+use Rattle.std.specs.Prelude.{◌≡◌, ℕ, ◌+◌, ◌*◌, ◌%◌, ◌<◌, List, [], length, map, slice_index, None}
 use mathlib.Core.Option.{some}
 use lib.ListN.{get_elem?}
 use Rattle.atomic_table.specs.Table.{State}
@@ -28,6 +28,10 @@ Holds count s = (keeper : ℕ) × (desk : Desk) × IsKept count keeper desk s.wo
 -- what the keeper knows at the making: these epochs, in which each patch that is there is pinned
 abbrev pub opened : List ℕ → Desk
 opened epochs = record { made = 0; pins = epochs; epochs = epochs; guest = None; ended = []; misses = [] }
+
+-- the same of any epochs: a patch is there where its epoch is odd
+abbrev pub opened_at : List ℕ → Desk
+opened_at epochs = record { made = 0; pins = map (λ epoch. epoch % 2) epochs; epochs = epochs; guest = None; ended = []; misses = [] }
 
 -- who has no words knows nothing
 abbrev pub no_desk : Desk

@@ -1,7 +1,9 @@
 //! How a table is made, with the seats at it.
 
-ghost use Rattle.std.specs.Prelude.{◌≡◌, ◌+◌, ◌*◌, ◌<◌, ◌≤◌, length, map, All, IfOk};
-ghost use Rattle.token_table.specs.Makings.{IsMade, ArePins, AreNewcomers, session_seen, with_sessions};
+ghost use Rattle.std.specs.Prelude.{◌≡◌, ◌+◌, ◌*◌, ◌%◌, ◌<◌, ◌≤◌, false, length, map, All, IfOk};
+ghost use Rattle.file_model.specs.Tries.{is_odd};
+ghost use Rattle.token_words.specs.declared.keeping.TheConstants.{LAST_EPOCH};
+ghost use Rattle.token_table.specs.Makings.{IsMade, IsMadeAt, AreStarts, AreNewcomers, session_seen, with_sessions};
 ghost use Rattle.token_table.specs.Changes.{newcomer, with_made};
 
 use crate::plays::Making;
@@ -10,6 +12,7 @@ use crate::tables::{ONE_EPOCH, TokenTable};
 use atomic_table::Table;
 use grid_vertex::NoMemory;
 use std::alloc::Global;
+use token_words::LAST_EPOCH;
 
 /// A new table, the seat of its keeper, and the seats of its sessions in the order of their
 /// numbers, which begin at 1.
@@ -20,25 +23,27 @@ pub struct Made {
     pub sessions: Vec<SessionSeat>,
 }
 
-/// The epochs at the making: 1 for a patch of the base, else 0.
-fn first_epochs(alloc: Global, patches: u32, base: &[u32]) -> Result<Vec<u32>, NoMemory>
-    requires { All (λ patch. patch < patches) base.now }
-    ensures { IfOk result (λ epochs. ArePins patches base.now epochs.items) }
+/// The epochs at the making: one more than `start` for a patch of the base, else `start`.
+fn first_epochs(alloc: Global, start: u32, patches: u32, base: &[u32]) -> Result<Vec<u32>, NoMemory>
+    requires start { start < LAST_EPOCH }
+    requires base { All (λ patch. patch < patches) base.now }
+    ensures { IfOk result (λ epochs. AreStarts start patches base.now epochs.items) }
 {
-    let mut epochs = vec![in alloc; 0; patches as usize]?;
+    let mut epochs = vec![in alloc; start; patches as usize]?;
     for &patch in base {
-        epochs[patch as usize] = 1;
+        epochs[patch as usize] = start + 1;
     }
     Ok(epochs)
 }
 
 /// The words at the making: each patch that is there has one use, its pin.
 fn first_words(alloc: Global, epochs: &[u32]) -> Result<Vec<u64>, NoMemory>
-    ensures { IfOk result (λ words. words.items ≡ map (λ epoch. epoch * 4294967297) epochs.now) }
+    ensures { IfOk result
+        (λ words. words.items ≡ map (λ epoch. epoch * 4294967296 + epoch % 2) epochs.now) }
 {
     let mut words = Vec::with_capacity(alloc, epochs.len())?;
     for &epoch in epochs {
-        words.push(u64::from(epoch) * (ONE_EPOCH + 1))?;
+        words.push(u64::from(epoch) * ONE_EPOCH + u64::from(epoch % 2))?;
     }
     Ok(words)
 }
@@ -52,7 +57,25 @@ impl TokenTable {
         requires sessions { sessions ≤ 64 }
         ensures { IfOk result (IsMade patches base.now sessions) }
     {
-        let epochs = first_epochs(alloc, patches, base)?;
+        TokenTable::starting_at(alloc, 0, patches, base, sessions)
+    }
+
+    /// The same with epochs that begin at an even number: a patch of `base` has one more.
+    pub(crate) fn starting_at(
+        alloc: Global,
+        start: u32,
+        patches: u32,
+        base: &[u32],
+        sessions: u32,
+    ) -> Result<Made, NoMemory>
+        requires even { is_odd start ≡ false }
+        requires below { start < LAST_EPOCH }
+        requires patches { 0 < patches }
+        requires base { All (λ patch. patch < patches) base.now }
+        requires sessions { sessions ≤ 64 }
+        ensures { IfOk result (IsMadeAt start patches base.now sessions) }
+    {
+        let epochs = first_epochs(alloc, start, patches, base)?;
         let words = first_words(alloc, epochs.as_slice())?;
         let (table, seat) = Table::of_words(alloc, words.as_slice(), &epochs)?;
         let table = TokenTable { table };

@@ -14,6 +14,7 @@ use std::test::Fail;
 use std::thread::{Threads, join};
 use token_words::Evict;
 
+mod last_epochs;
 mod lists;
 
 /// A session tries to lock a patch, and ends its use.

@@ -84,11 +84,12 @@ module _ (w : World) (world : IsWorld w) (sessions : ℕ → Option SessionState
   unfolding board_of
   setting_again m n setting = record { board = setting.board; sets = setting.sets; index = setting.index; bodies = setting.bodies }
 
-  record IsMade (m : Moment) (log : List (ℕ × Turn)) (n : Moment) : Type 0 where
-    makes : MakesAll w (at m) log (at n)
-    safe : IsSafe w (at n)
+  -- the chain's turns are the run's, which keep its state safe
+  pub record IsMade (m : Moment) (log : List (ℕ × Turn)) (n : Moment) : Type 0 where
+    pub makes : MakesAll w (at m) log (at n)
+    pub safe : IsSafe w (at n)
 
-  all_made : (m n : Moment) (log : List (ℕ × Turn)) → IsSettingOf w (at m) u → IsSafe w (at m) → MakesTurns u m log n → IsMade m log n
+  pub all_made : (m n : Moment) (log : List (ℕ × Turn)) → IsSettingOf w (at m) u → IsSafe w (at m) → MakesTurns u m log n → IsMade m log n
   all_made m n _ setting safe Begins = record { makes = MakesNone; safe = safe }
   all_made m o _ setting safe (AndTurn {made = made} {n = n} k answer earlier turn) =
       let before = all_made m n made setting safe earlier in

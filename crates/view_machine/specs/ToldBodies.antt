@@ -38,26 +38,27 @@ at_number n i f a within =
     some_at (map f (range_with_len a n)) i no_body.lists (subst (λ (m : ℕ). i < m) (sym (length-map-range_with_len f a n)) within)
     ∙ ap Some (get_or-map-range_with_len f a n i (a + i) no_body.lists within refl)
 
-patch_within : (index : IndexLists) (bytes : List ℕ) (p : ℕ) (lists : BodyLists) → body_at index bytes p ≡ Some (Ok lists) → p < length index.fields
-patch_within index bytes p lists said = by_field (slice_get index.fields p) refl said
+patch_within : (index : IndexLists) (bytes : List ℕ) (p : ℕ) (is : Result BodyLists FileFault) → body_at index bytes p ≡ Some is → p < length index.fields
+patch_within index bytes p is said = by_field (slice_get index.fields p) refl said
   where
-    by_field : (field : Option PatchField) → slice_get index.fields p ≡ field → option_map (λ (f : PatchField). body_of_file index.version p f (body_offset index p) bytes) field ≡ Some (Ok lists) → p < length index.fields
-    by_field None at is = absurd (cc)
-    by_field (Some f) at is = slice_get_within index.fields p f at
+    by_field : (field : Option PatchField) → slice_get index.fields p ≡ field → option_map (λ (f : PatchField). body_of_file index.version p f (body_offset index p) bytes) field ≡ Some is → p < length index.fields
+    by_field None at same = absurd (cc)
+    by_field (Some f) at same = slice_get_within index.fields p f at
 
 zero_plus : (p : ℕ) → 0 + p ≡ p
 zero_plus p = omega arith
 
-said_at : (index : IndexLists) (bytes : List ℕ) (p : ℕ) (lists : BodyLists) → body_at index bytes p ≡ Some (Ok lists) → slice_get (said_bodies index bytes) p ≡ Some lists
+-- what is said of a patch stands at its number
+pub said_of : (index : IndexLists) (bytes : List ℕ) (p : ℕ) (is : Result BodyLists FileFault) → body_at index bytes p ≡ Some is → slice_get (said_bodies index bytes) p ≡ Some (lists_said (Some is))
 unfolding said_bodies
-said_at index bytes p lists said =
-    at_number (length index.fields) p (λ q. lists_said (body_at index bytes q)) 0 (patch_within index bytes p lists said)
+said_of index bytes p is said =
+    at_number (length index.fields) p (λ q. lists_said (body_at index bytes q)) 0 (patch_within index bytes p is said)
     ∙ ap (λ (q : ℕ). Some (lists_said (body_at index bytes q))) (zero_plus p)
     ∙ ap (λ (said : Option (Result BodyLists FileFault)). Some (lists_said said)) said
 
 told_at : (index : IndexLists) (bytes : Option (List ℕ)) (p : ℕ) (body : SeenBody) → IfSome bytes (λ bs. body_at index bs p ≡ read_as body) → IfSome (told_bodies index bytes) (λ bodies. slice_get bodies p ≡ Some body.lists)
 told_at index None p body told = tt
-told_at index (Some bytes) p body told = said_at index bytes p body.lists told
+told_at index (Some bytes) p body told = said_of index bytes p (Ok body.lists) told
 
 -- a body of the file is one of the world's
 pub world_body : (w : World) (bytes : Option (List ℕ)) (p : ℕ) (body : SeenBody) → w.bodies ≡ told_bodies w.mesh.index bytes → IsBodyFor (sizes_of w.mesh.index) p body → IsFileBody w.mesh.index bytes p body → IsWorldBody w p body

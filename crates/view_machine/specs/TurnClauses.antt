@@ -22,7 +22,7 @@ use Rattle.wish_board.specs.Boards.{BoardSeen, board_wish}
 use Rattle.cache_chain.specs.ChainStates.{IsFileBody, FindsChanged}
 use Rattle.cache_chain.specs.Turning.{chain_of, AtLowest, GivesBelow, TakesWishes}
 use Rattle.cache_chain.specs.WordTurns.{words_of}
-use Rattle.cache_chain.specs.TurnRuns.{Setting, Moment, setting_of, moment_of, chain_at, KeepsSets, MakesTurn}
+use Rattle.cache_chain.specs.TurnRuns.{Setting, Moment, setting_of, moment_of, chain_at, KeepsSets, MakesTurn, MakesTurns}
 use Rattle.cache_chain.specs.SettleRuns.{lines_of, LogsSettling, LogsStop}
 use Rattle.cache_chain.specs.declared.parts.TurnLine.{TurnLine}
 use Rattle.run_model.specs.Worlds.{World}
@@ -35,6 +35,8 @@ use Rattle.script_model.specs.declared.orders.Order.TheVariants as orders
 use Rattle.run_model.specs.Lines.{DidTurns, SettlesTo, DoesSettle}
 use Rattle.run_model.specs.LineLaws.{does_reaches}
 use Rattle.session_seats.specs.Seats.{SeatsSeen, at_seat, state_of}
+use Rattle.view_machine.specs.CountLaws.{one_counts, turns_count}
+use Rattle.view_machine.specs.LineCounts.{CountsTurns}
 use Rattle.view_machine.specs.Machines.{world_with, state_in, IsMachine}
 use Rattle.view_machine.specs.MachineLaws.{board_is}
 use Rattle.view_machine.specs.Stops.{began, StopsAt, AtEvents, AtTurn}
@@ -122,18 +124,19 @@ pub logged_turns : (turns : List (ℕ × Turn)) → map turn_in (map (λ (t : �
 logged_turns [] = refl
 logged_turns (t ∷ ts) = ap (λ (rest : List (ℕ × Turn)). t ∷ rest) (logged_turns ts)
 
--- the tiers settled, and each turn was logged
-pub record LogsLine (w : World) (a : State) (old new : List TurnLine) (b : State) : Type 0 where
+-- the tiers settled, each turn was logged, and the store's counts rose by the turns
+pub record LogsLine (w : World) (a : State) (old new : List TurnLine) (b : State) (faults_before faults_now taken_before taken_now : ℕ) : Type 0 where
   pub turns : List (ℕ × Turn)
   pub log : new ≡ old ++ lines_of turns
   pub settles : SettlesTo w (length w.budgets) a turns b
+  pub counts : CountsTurns w turns faults_before faults_now taken_before taken_now
 
-settles_reach : (w : World) (a : State) (old new : List TurnLine) (b : State) → LogsLine w a old new b → Reaches w a b
-settles_reach w a old new b logs = does_reaches w a b orders.Settle (DidTurns logs.turns) (DoesSettle logs.settles)
+pub settles_reach : (w : World) (a : State) (old new : List TurnLine) (b : State) (f g t u : ℕ) → LogsLine w a old new b f g t u → Reaches w a b
+settles_reach w a old new b f g t u logs = does_reaches w a b orders.Settle (DidTurns logs.turns) (DoesSettle logs.settles)
 
-pub settles_either : {E : Type 0} (w : World) (a : State) (old new : List TurnLine) (b : State) (result : Result (Unit {0}) E) → OnOk result (LogsLine w a old new b) → OnErr result (StopsAt w a b) → StopsAt w a b
-settles_either w a old new b (Ok x) logs stops = AtEvents (settles_reach w a old new b logs)
-settles_either w a old new b (Err e) logs stops = stops
+pub settles_either : {E : Type 0} (w : World) (a : State) (old new : List TurnLine) (b : State) (f g t u : ℕ) (result : Result (Unit {0}) E) → OnOk result (LogsLine w a old new b f g t u) → OnErr result (StopsAt w a b) → StopsAt w a b
+settles_either w a old new b f g t u (Ok x) logs stops = AtEvents (settles_reach w a old new b f g t u logs)
+settles_either w a old new b f g t u (Err e) logs stops = stops
 
 pub if_ok_log : {E P : Type 0} (result : Result (Unit {0}) E) (Q : Type 0) → (P → Q) → IfOk result (λ _. P) → OnOk result Q
 if_ok_log (Ok x) Q then p = then p
@@ -163,6 +166,11 @@ module _ (mesh : MeshLists) (bytes : Option (List ℕ)) (tiers : List TierState)
     unfolding state_of
     turn_is k answer turn = turn_tells w (at_seat seats.sessions) (at_seat board.views) board.version u k answer first last setting_is (λ t at. (is.safe.set_up k t at).made) turn
 
+    -- the store's counts rise by the turn
+    pub turn_counts : (k : ℕ) (answer : Turn) → MakesTurn u k answer first last → CountsTurns w ((k, answer) ∷ []) faults faults_now taken taken_now
+    unfolding state_of
+    turn_counts k answer turn = one_counts w u k answer first last is.safe.many (λ t at. (is.safe.set_up k t at).made.sizes) setting_is.index setting_is.bodies turn
+
     pub turn_stops : (k : ℕ) → TakesWishes u.board k tiers now → Stays (epoch_in words) (epoch_in words_now) → SetsStay (is_user_in words) (is_user_in words_now) → StopsAt w (state_in tiers words seats board) (state_in now words_now seats board)
     unfolding state_of
     turn_stops k takes epochs users = stopped w (at_seat seats.sessions) (at_seat board.views) board.version u k (state_in tiers words seats board) first last setting_is NoEvent (inr takes) epochs users
@@ -173,6 +181,11 @@ module _ (mesh : MeshLists) (bytes : Option (List ℕ)) (tiers : List TierState)
     settling_is old new logs =
         subst (λ (n : ℕ). SettlesTo w n (state_in tiers words seats board) logs.made (state_in now words_now seats board)) is.safe.many
         (settling_tells w is.world (at_seat seats.sessions) (at_seat board.views) board.version u (length tiers) first last logs.made (chain_of tiers (epoch_in words)) (chain_of now (epoch_in words_now)) setting_is is.safe logs.settles logs.turns)
+
+    -- the store's counts rise by the turns
+    pub settling_counts : (made : List (ℕ × Turn)) → MakesTurns u first made last → CountsTurns w made faults faults_now taken taken_now
+    unfolding state_of
+    settling_counts made turns = turns_count w is.world (at_seat seats.sessions) (at_seat board.views) board.version u first last made setting_is is.safe turns
 
     pub settling_stops : (old new : List TurnLine) → LogsStop u first last old new → StopsAt w (state_in tiers words seats board) (state_in now words_now seats board)
     unfolding state_of

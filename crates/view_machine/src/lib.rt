@@ -4,8 +4,9 @@
 #![tactic(auto)]
 
 mod machines;
+mod playing;
 mod refusals;
 
 pub use cache_chain::StartRefusal;
-pub use machines::Machine;
+pub use machines::{Beginning, Machine};
 pub use refusals::RunRefusal;

@@ -7,8 +7,13 @@ use token_words::PlainTokens;
 use view_outside::Store;
 use wish_board::WishBoard;
 
+mod frames;
+mod lines;
+mod opening;
 mod sessions;
 mod tiers;
+
+pub use opening::Beginning;
 
 /// The state of a run: a chain of tiers, the words of its patches, the sessions at their seats, and the board
 /// of the views that they posted.

@@ -116,7 +116,7 @@ fn call_plain(
     }
 }
 
-fn admit_shared(rt: &impl Abort, table: &TokenTable, keeper: &mut KeeperSeat, patch: u32)
+pub(super) fn admit_shared(rt: &impl Abort, table: &TokenTable, keeper: &mut KeeperSeat, patch: u32)
     requires table { keeper.old.table ≡ table.now }
     requires patch { patch < length keeper.old.desk.epochs }
     ensures table { keeper.new.table ≡ table.now }
@@ -128,7 +128,12 @@ fn admit_shared(rt: &impl Abort, table: &TokenTable, keeper: &mut KeeperSeat, pa
 }
 
 #[tactic(auto, using(crate::proofs::Uses::epochs_kept))]
-fn evict_shared(rt: &impl Abort, table: &TokenTable, keeper: &mut KeeperSeat, patch: u32) -> Evict
+pub(super) fn evict_shared(
+    rt: &impl Abort,
+    table: &TokenTable,
+    keeper: &mut KeeperSeat,
+    patch: u32,
+) -> Evict
     requires table { keeper.old.table ≡ table.now }
     requires patch { patch < length keeper.old.desk.epochs }
     ensures table { keeper.new.table ≡ table.now }
@@ -139,7 +144,12 @@ fn evict_shared(rt: &impl Abort, table: &TokenTable, keeper: &mut KeeperSeat, pa
     table.evict(keeper, patch)
 }
 
-fn refuse_shared(rt: &impl Abort, table: &TokenTable, seat: &mut SessionSeat, patch: u32) -> u32
+pub(super) fn refuse_shared(
+    rt: &impl Abort,
+    table: &TokenTable,
+    seat: &mut SessionSeat,
+    patch: u32,
+) -> u32
     requires seat { IsIdle table.now seat.old }
     requires patch { patch < table.now.words }
     ensures { IsIdle table.now seat.new }
@@ -150,7 +160,7 @@ fn refuse_shared(rt: &impl Abort, table: &TokenTable, seat: &mut SessionSeat, pa
     seen.epoch
 }
 
-fn hold_shared(
+pub(super) fn hold_shared(
     rt: &impl Abort,
     table: &TokenTable,
     keeper: &mut KeeperSeat,

@@ -1,10 +1,11 @@
 //! The lines of sessions. Each call does what its line orders, and gives the text.
 
-ghost use Rattle.std.specs.Prelude.{◌≡◌, ◌^◌, ◌<◌, None, IfOk, OnErr};
+ghost use Rattle.std.specs.Prelude.{◌≡◌, ◌+◌, ◌^◌, ◌<◌, ◌≤◌, None, Some, IfOk, OnOk, OnErr};
 ghost use Rattle.script_model.specs.declared.orders.Order.TheVariants as orders;
+ghost use Rattle.token_words.specs.Changes.{SetAt, Stays};
 ghost use Rattle.token_words.specs.Sessions.{IsSession};
 ghost use Rattle.run_model.specs.Lines.{DidClose, DidFree, DidStep, Does};
-ghost use Rattle.session_seats.specs.Seats.{at_seat, IsOpen, HasView};
+ghost use Rattle.session_seats.specs.Seats.{SessionTold, at_seat, IsOpen, HasView, told_at, just_opened, told_view};
 ghost use Rattle.view_machine.specs.Machines.{world_of, run_state, KeepsPlace};
 ghost use Rattle.view_machine.specs.Stops.{StopsAt};
 ghost use Rattle.view_machine.specs.LineTells.{DoesLine};
@@ -27,6 +28,9 @@ impl<'a, S: Store> Machine<'a, S> {
             DoesLine (world_of self.old) (orders.Open session) (run_state self.old)
             (run_state self.new) text.items) }
         ensures none { OnErr result (self.new ≡ self.old) }
+        ensures told { OnOk result
+            (SetAt (told_at self.old.seats.sessions) session (Some just_opened)
+            (told_at self.new.seats.sessions)) }
         ensures place { KeepsPlace self.old self.new }
         ensures board { self.new.board ≡ self.old.board }
         ensures chain { self.new.chain ≡ self.old.chain }
@@ -46,6 +50,11 @@ impl<'a, S: Store> Machine<'a, S> {
             DoesLine (world_of self.old) (orders.View session view) (run_state self.old)
             (run_state self.new) text.items) }
         ensures none { OnErr result (self.new ≡ self.old) }
+        ensures told { OnOk result
+            ((told : SessionTold) → told_at self.old.seats.sessions session ≡ Some told
+            → SetAt (told_at self.old.seats.sessions) session (Some (told_view told view))
+            (told_at self.new.seats.sessions)) }
+        ensures version { self.new.board.version ≤ self.old.board.version + 1 }
         ensures place { KeepsPlace self.old self.new }
         ensures chain { self.new.chain ≡ self.old.chain }
     {
@@ -64,6 +73,7 @@ impl<'a, S: Store> Machine<'a, S> {
             (DidStep session did) (run_state self.new)) }
         ensures none { OnErr result
             (StopsAt (world_of self.old) (run_state self.old) (run_state self.new)) }
+        ensures told { Stays (told_at self.old.seats.sessions) (told_at self.new.seats.sessions) }
         ensures place { KeepsPlace self.old self.new }
         ensures board { self.new.board ≡ self.old.board }
         ensures chain { self.new.chain ≡ self.old.chain }
@@ -80,6 +90,7 @@ impl<'a, S: Store> Machine<'a, S> {
             (run_state self.new) text.items) }
         ensures none { OnErr result
             (StopsAt (world_of self.old) (run_state self.old) (run_state self.new)) }
+        ensures told { Stays (told_at self.old.seats.sessions) (told_at self.new.seats.sessions) }
         ensures place { KeepsPlace self.old self.new }
         ensures board { self.new.board ≡ self.old.board }
         ensures chain { self.new.chain ≡ self.old.chain }
@@ -95,6 +106,7 @@ impl<'a, S: Store> Machine<'a, S> {
         requires { IsOpen self.old.seats.sessions session }
         ensures does { Does (world_of self.old) (run_state self.old) (orders.Free session)
             (DidFree session result) (run_state self.new) }
+        ensures told { Stays (told_at self.old.seats.sessions) (told_at self.new.seats.sessions) }
         ensures place { KeepsPlace self.old self.new }
         ensures board { self.new.board ≡ self.old.board }
         ensures chain { self.new.chain ≡ self.old.chain }
@@ -111,6 +123,7 @@ impl<'a, S: Store> Machine<'a, S> {
             (run_state self.new) text.items) }
         ensures none { OnErr result
             (StopsAt (world_of self.old) (run_state self.old) (run_state self.new)) }
+        ensures told { Stays (told_at self.old.seats.sessions) (told_at self.new.seats.sessions) }
         ensures place { KeepsPlace self.old self.new }
         ensures board { self.new.board ≡ self.old.board }
         ensures chain { self.new.chain ≡ self.old.chain }
@@ -127,6 +140,9 @@ impl<'a, S: Store> Machine<'a, S> {
         requires few { self.old.board.version < 2 ^ 63 }
         ensures does { Does (world_of self.old) (run_state self.old) (orders.Close session)
             (DidClose session result) (run_state self.new) }
+        ensures told { SetAt (told_at self.old.seats.sessions) session None
+            (told_at self.new.seats.sessions) }
+        ensures version { self.new.board.version ≤ self.old.board.version + 1 }
         ensures place { KeepsPlace self.old self.new }
         ensures chain { self.new.chain ≡ self.old.chain }
     {
@@ -143,6 +159,9 @@ impl<'a, S: Store> Machine<'a, S> {
             (run_state self.new) text.items) }
         ensures none { OnErr result
             (StopsAt (world_of self.old) (run_state self.old) (run_state self.new)) }
+        ensures told { SetAt (told_at self.old.seats.sessions) session None
+            (told_at self.new.seats.sessions) }
+        ensures version { self.new.board.version ≤ self.old.board.version + 1 }
         ensures place { KeepsPlace self.old self.new }
         ensures chain { self.new.chain ≡ self.old.chain }
     {

@@ -1,14 +1,16 @@
-use Rattle.std.proofs.Common.{ℕ, List, Option, refl, sym, subst, ◌∙◌}
+use Rattle.std.proofs.Common.{ℕ, ◌+◌, ◌<◌, ◌≤◌, ◌^◌, List, Option, None, refl, sym, subst, ◌∙◌}
+use Rattle.token_words.specs.Changes.{SetAt}
+use Rattle.session_seats.specs.Seats.{told_at, SeatsSeen, AreSeated}
+use Rattle.session_seats.specs.BoardLaws.{taken_off_version}
+use Rattle.wish_board.specs.Boards.{without_view, BoardSeen}
 use Rattle.mesh_model.specs.Meshes.{MeshLists}
 use Rattle.view_outside.specs.Files.{file_bytes}
 use Rattle.script_model.specs.declared.orders.Order.TheVariants as orders
 use Rattle.token_words.specs.PlainTokens.{words_seen}
 use Rattle.token_words.specs.declared.entries.Entry.{Entry}
 use Rattle.tier_model.specs.Tiers.{TierState}
-use Rattle.wish_board.specs.Boards.{BoardSeen}
 use Rattle.run_model.specs.Lines.{DidClose, Does}
 use Rattle.session_seats.specs.Boards.{IsBoardFor}
-use Rattle.session_seats.specs.Seats.{SeatsSeen, AreSeated}
 use Rattle.view_machine.specs.Machines.{MachineSeen, world_of, run_state, world_with, state_in, KeepsPlace, IsMachine}
 use Rattle.view_machine.specs.MachineLaws.{KeepsMachine}
 use Rattle.view_machine.specs.SeatLines.{seats_post, does_keep}
@@ -77,3 +79,14 @@ returns-clause-does g c =
 pub returns-clause-place : goal.returns-clause-place
 returns-clause-place g c =
     subst (λ (m : MachineSeen g.row.S.Denot). KeepsPlace m (seen_now g c)) c.self.view_is (record { world = (kept g c).world; mesh = refl; file = refl; bytes = refl; lender = refl })
+
+pub returns-clause-told : goal.returns-clause-told
+returns-clause-told g c =
+    subst (λ (m : MachineSeen g.row.S.Denot). SetAt (told_at m.seats.sessions) c.args.session None (told_at (seats_now g c).sessions)) c.self.view_is c.close.ensures.told
+
+pub returns-clause-version : goal.returns-clause-version
+returns-clause-version g c =
+    let few : (board g c).version < 2 ^ 63 = subst (λ (m : MachineSeen g.row.S.Denot). m.board.version < 2 ^ 63) (sym c.self.view_is) c.requires.few in
+    let most : (without_view (board g c) c.args.session).version ≤ (board g c).version + 1 = taken_off_version (board g c) c.args.session few in
+    subst (λ (m : MachineSeen g.row.S.Denot). (board_now g c).version ≤ m.board.version + 1) c.self.view_is
+    (subst (λ (b : BoardSeen). b.version ≤ (board g c).version + 1) (sym c.close.ensures.taken_off) most)

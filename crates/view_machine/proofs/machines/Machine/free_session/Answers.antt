@@ -1,4 +1,6 @@
 use Rattle.std.proofs.Common.{ℕ, List, Option, refl, sym, subst}
+use Rattle.token_words.specs.Changes.{Stays}
+use Rattle.session_seats.specs.Seats.{told_at, SeatsSeen, AreSeated}
 use Rattle.mesh_model.specs.Meshes.{MeshLists}
 use Rattle.view_outside.specs.Files.{file_bytes}
 use Rattle.script_model.specs.declared.orders.Order.TheVariants as orders
@@ -7,7 +9,6 @@ use Rattle.token_words.specs.declared.entries.Entry.{Entry}
 use Rattle.tier_model.specs.Tiers.{TierState}
 use Rattle.wish_board.specs.Boards.{BoardSeen}
 use Rattle.run_model.specs.Lines.{DidFree, Does}
-use Rattle.session_seats.specs.Seats.{SeatsSeen, AreSeated}
 use Rattle.view_machine.specs.Machines.{MachineSeen, world_of, run_state, world_with, state_in, KeepsPlace, IsMachine}
 use Rattle.view_machine.specs.MachineLaws.{KeepsMachine}
 use Rattle.view_machine.specs.SeatLines.{seats_do, does_keep}
@@ -68,3 +69,7 @@ returns-clause-does g c =
 pub returns-clause-place : goal.returns-clause-place
 returns-clause-place g c =
     subst (λ (m : MachineSeen g.row.S.Denot). KeepsPlace m (seen_now g c)) c.self.view_is (record { world = (kept g c).world; mesh = refl; file = refl; bytes = refl; lender = refl })
+
+pub returns-clause-told : goal.returns-clause-told
+returns-clause-told g c =
+    subst (λ (m : MachineSeen g.row.S.Denot). Stays (told_at m.seats.sessions) (told_at (seats_now g c).sessions)) c.self.view_is c.free.ensures.told

@@ -1,4 +1,6 @@
-use Rattle.std.proofs.Common.{ℕ, List, [], ◌++◌, codes, refl, ap, subst, ◌∙◌}
+use Rattle.std.proofs.Common.{ℕ, List, [], ◌++◌, Some, codes, refl, ap, subst, ◌∙◌}
+use Rattle.token_words.specs.Changes.{SetAt}
+use Rattle.session_seats.specs.Seats.{told_at, just_opened}
 use Rattle.view_outside.specs.Files.{file_bytes}
 use Rattle.script_model.specs.declared.orders.Order.TheVariants as orders
 use Rattle.token_words.specs.PlainTokens.{words_seen}
@@ -34,3 +36,7 @@ returns-clause-line g c =
       is = c.in_ok-add_open.ensures.ok.is ∙ ap (λ (t : List ℕ). t ++ session_line (codes "open") c.args.session []) c.new-text.ensures.items;
     } in
     subst (λ (seen : MachineSeen g.row.S.Denot). DoesLine (world_of seen) order (run_state seen) (state_in m.chain.tiers words c.open.new.self m.board) text) c.self.view_is here
+
+pub returns-clause-told : goal.returns-clause-told
+returns-clause-told g c =
+    subst (λ (seen : MachineSeen g.row.S.Denot). SetAt (told_at seen.seats.sessions) c.args.session (Some just_opened) (told_at c.open.new.self.sessions)) c.self.view_is c.in_ok-open.ensures.told

@@ -15,4 +15,5 @@ returns-clause-line g c = record {
   did = DidTurns ((c.args.tier, c.in_ok-turn.turn) ∷ []);
   does = DoesTurn c.args.tier c.in_ok-turn.turn c.in_ok-turn.ensures.turns;
   is = c.in_ok-add_turn.ensures.ok.is ∙ ap (λ (text : List ℕ). text ++ turn_line c.args.tier c.in_ok-turn.turn) c.new-text.ensures.items ∙ sym (one_turn c.args.tier c.in_ok-turn.turn);
+  counts = c.in_ok-turn.ensures.counts;
 }

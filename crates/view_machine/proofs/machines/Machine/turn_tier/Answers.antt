@@ -1,4 +1,4 @@
-use Rattle.std.proofs.Common.{ℕ, List, [], false, refl, Option, IfOk, OnErr, sym, ap, ap₂, subst, ◌∙◌}
+use Rattle.std.proofs.Common.{ℕ, List, [], ◌∷◌, false, refl, Option, IfOk, OnErr, sym, ap, ap₂, subst, ◌∙◌}
 use Rattle.mesh_model.specs.Meshes.{MeshLists}
 use Rattle.accepted_mesh.specs.MeshView.{MeshSeen}
 use Rattle.view_outside.specs.Files.{file_bytes}
@@ -9,10 +9,11 @@ use Rattle.wish_board.specs.Boards.{BoardSeen}
 use Rattle.cache_chain.specs.TurnRuns.{Setting, Moment, MakesTurn}
 use Rattle.run_model.specs.Turning.{TurnsTo}
 use Rattle.session_seats.specs.Seats.{SeatsSeen}
+use Rattle.view_machine.specs.LineCounts.{CountsTurns}
 use Rattle.view_machine.specs.Machines.{MachineSeen, world_of, run_state, world_with, state_in, KeepsPlace, IsMachine}
 use Rattle.view_machine.specs.MachineLaws.{keeps_wishes, is_tied}
 use Rattle.view_machine.specs.Stops.{StopsAt}
-use Rattle.view_machine.specs.TurnClauses.{setting_in, moment_in, turn_made, if_ok_then, if_err_both, turn_is, turn_stops}
+use Rattle.view_machine.specs.TurnClauses.{setting_in, moment_in, turn_made, if_ok_then, if_err_both, turn_is, turn_counts, turn_stops}
 use Rattle.view_machine.specs.TurnKeeps.{stops_either, StaysMachine, turns_keep}
 use Rattle.view_machine.proofs.machines.Machine.turn_tier.Goals as goal
 use Rattle.view_machine.proofs.machines.Machine.turn_tier.Given as given
@@ -76,6 +77,12 @@ module _ (g : given.Over) (c : goal.After-turn g) where
       now (patch_count c.turn.new.keeper) words_now [] (g.S.Store.faults c.turn.new.self.store) (g.S.Store.taken c.turn.new.self.store) c.args.tier answer one)
       made
 
+  counts : IfOk c.turn.result (λ answer. CountsTurns (world_with mesh bytes tiers) ((c.args.tier, answer) ∷ []) (g.S.Store.faults c.self.inside.chain.store) (g.S.Store.faults c.turn.new.self.store) (g.S.Store.taken c.self.inside.chain.store) (g.S.Store.taken c.turn.new.self.store))
+  counts = if_ok_then c.turn.result
+      (λ answer one. turn_counts mesh bytes tiers words seats board is false (patch_count c.self.inside.words) [] (g.S.Store.faults c.self.inside.chain.store) (g.S.Store.taken c.self.inside.chain.store)
+      now (patch_count c.turn.new.keeper) words_now [] (g.S.Store.faults c.turn.new.self.store) (g.S.Store.taken c.turn.new.self.store) c.args.tier answer one)
+      made
+
   stops : OnErr c.turn.result (StopsAt (world_with mesh bytes tiers) (state_in tiers words seats board) (state_in now words_now seats board))
   stops = if_err_both c.turn.result
       (λ takes epochs. turn_stops mesh bytes tiers words seats board is false (patch_count c.self.inside.words) [] (g.S.Store.faults c.self.inside.chain.store) (g.S.Store.taken c.self.inside.chain.store)
@@ -99,6 +106,10 @@ invariant_of-self g c = (kept g c).is
 pub returns-clause-turns : goal.returns-clause-turns
 returns-clause-turns g c =
     subst (λ (m : MachineSeen g.row.S.Denot). IfOk c.turn.result (λ answer. TurnsTo (world_of m) c.args.tier (run_state m) answer (state_in (now g c) (words_now g c) (seats g c) (board g c)))) c.self.view_is (turns g c)
+
+pub returns-clause-counts : goal.returns-clause-counts
+returns-clause-counts g c =
+    subst (λ (m : MachineSeen g.row.S.Denot). IfOk c.turn.result (λ answer. CountsTurns (world_of m) ((c.args.tier, answer) ∷ []) (g.S.Store.faults m.chain.store) (g.S.Store.faults c.turn.new.self.store) (g.S.Store.taken m.chain.store) (g.S.Store.taken c.turn.new.self.store))) c.self.view_is (counts g c)
 
 pub returns-clause-none : goal.returns-clause-none
 returns-clause-none g c =

@@ -1,12 +1,15 @@
-use Rattle.std.proofs.Common.{ℕ, List, [], ◌++◌, codes, refl, sym, ap, subst, ◌∙◌}
+use Rattle.std.proofs.Common.{◌≡◌, ℕ, ◌+◌, ◌<◌, ◌≤◌, ◌^◌, List, [], ◌++◌, Some, codes, refl, sym, ap, subst, ◌∙◌, arith}
+use Rattle.token_words.specs.Changes.{SetAt}
+use Rattle.session_seats.specs.Seats.{SessionTold, told_at, told_view, AreSeated}
+use Rattle.session_seats.specs.Boards.{posted_on, posting_view, IsBoardFor}
+use Rattle.session_seats.specs.BoardLaws.{posted_version}
+use Rattle.wish_board.specs.Boards.{BoardSeen}
 use Rattle.mesh_model.specs.Meshes.{MeshLists}
 use Rattle.view_outside.specs.Files.{file_bytes}
 use Rattle.script_model.specs.declared.orders.Order.TheVariants as orders
 use Rattle.token_words.specs.PlainTokens.{words_seen}
 use Rattle.run_model.specs.Lines.{DidView}
 use Rattle.run_model.specs.LineTexts.{session_line}
-use Rattle.session_seats.specs.Boards.{IsBoardFor}
-use Rattle.session_seats.specs.Seats.{AreSeated}
 use Rattle.view_machine.specs.LineTells.{DoesLine}
 use Rattle.view_machine.specs.Machines.{MachineSeen, world_of, run_state, world_with, state_in}
 use Rattle.view_machine.specs.SeatLines.{seats_post, does_keep}
@@ -44,3 +47,15 @@ returns-clause-line g c =
       is = c.in_ok-add_view.ensures.ok.is ∙ ap (λ (t : List ℕ). t ++ session_line (codes "view") c.args.session []) c.new-text.ensures.items;
     } in
     subst (λ (seen : MachineSeen g.row.S.Denot). DoesLine (world_of seen) order (run_state seen) (state_in m.chain.tiers words seats_now board_now) text) c.self.view_is here
+
+pub returns-clause-told : goal.returns-clause-told
+returns-clause-told g c =
+    subst (λ (seen : MachineSeen g.row.S.Denot). (told : SessionTold) → told_at seen.seats.sessions c.args.session ≡ Some told → SetAt (told_at seen.seats.sessions) c.args.session (Some (told_view told c.args.view)) (told_at c.set_view.new.self.sessions)) c.self.view_is c.in_ok-set_view.ensures.told
+
+pub returns-clause-version : goal.returns-clause-version
+returns-clause-version g c =
+    let m = c.self.inside in
+    let few : m.board.version < 2 ^ 63 = subst (λ (seen : MachineSeen g.row.S.Denot). seen.board.version < 2 ^ 63) (sym c.self.view_is) c.requires.few in
+    let posted : (posted_on m.board c.args.session c.args.view m.seats.mesh).version ≡ m.board.version + 1 = posted_version m.board c.args.session (Some (posting_view c.args.view m.seats.mesh)) few in
+    let now : c.set_view.new.board.version ≡ m.board.version + 1 = ap (λ (b : BoardSeen). b.version) c.in_ok-set_view.ensures.posted ∙ posted in
+    subst (λ (seen : MachineSeen g.row.S.Denot). c.set_view.new.board.version ≤ seen.board.version + 1) c.self.view_is (omega (arith, now))
