@@ -1,0 +1,5 @@
+pub mod HalfSpaces
+pub mod Behind
+pub mod Planes
+pub mod Culling
+pub mod CulledCuts
