@@ -1,4 +1,4 @@
-//! The strip that is made.
+//! Strips that are made, and bench runs over them.
 
 use super::*;
 
@@ -25,6 +25,27 @@ fn a_sink_without_room(rt: HostRuntime) -> Result<(), Fail> {
     let (status, bytes) = made(rt.alloc(), &["make", "2"], 679)?;
     assert_eq!(rt; status, Status::WriteFault);
     assert!(rt; bytes.len() <= 679);
+    Ok(())
+}
+
+#[test]
+fn bench_summaries(rt: HostRuntime) -> Result<(), Fail> {
+    for (columns, summary) in [
+        (
+            "2",
+            "bench 2\nfile 680 nodes 5 patches 7\nbase patches 2 triangles 4 open 6\nsettle 16\n\
+            frame nodes 4 patches 3 triangles 10 open 6\n",
+        ),
+        (
+            "16384",
+            "bench 16384\nfile 6356896 nodes 32769 patches 65535\n\
+            base patches 16384 triangles 32768 open 32770\nsettle 147454\n\
+            frame nodes 32768 patches 16385 triangles 98302 open 32770\n",
+        ),
+    ] {
+        let (status, text) = made(rt.alloc(), &["bench", columns], 1000)?;
+        assert_eq!(rt; (status, text.as_slice()), (Status::Ok, summary.as_bytes()));
+    }
     Ok(())
 }
 

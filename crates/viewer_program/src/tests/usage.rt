@@ -25,6 +25,8 @@ fn no_commands(rt: HostRuntime) -> Result<(), Fail> {
         &["playw", "Q", "9", "144"][..],
         &["serve", "Q", "144"][..],
         &["make", "3"][..],
+        &["bench", "3"][..],
+        &["bench", "0"][..],
     ] {
         let (status, written) = run_on(alloc, words, &square())?;
         assert_eq!(rt; (status, written.as_str()), (Status::Usage, ""));
