@@ -29,23 +29,24 @@ fn a_sink_without_room(rt: HostRuntime) -> Result<(), Fail> {
 }
 
 #[test]
-fn bench_summaries(rt: HostRuntime) -> Result<(), Fail> {
-    for (columns, summary) in [
-        (
-            "2",
-            "bench 2\nfile 680 nodes 5 patches 7\nbase patches 2 triangles 4 open 6\nsettle 16\n\
-            frame nodes 4 patches 3 triangles 10 open 6\n",
-        ),
-        (
-            "16384",
-            "bench 16384\nfile 6356896 nodes 32769 patches 65535\n\
-            base patches 16384 triangles 32768 open 32770\nsettle 147454\n\
-            frame nodes 32768 patches 16385 triangles 98302 open 32770\n",
-        ),
-    ] {
-        let (status, text) = made(rt.alloc(), &["bench", columns], 1000)?;
-        assert_eq!(rt; (status, text.as_slice()), (Status::Ok, summary.as_bytes()));
-    }
+fn a_bench_of_two_columns(rt: HostRuntime) -> Result<(), Fail> {
+    let (status, text) = made(rt.alloc(), &["bench", "2"], 1000)?;
+    assert_eq!(rt; status, Status::Ok);
+    let summary =
+        b"bench 2\nfile 680 nodes 5 patches 7\nbase patches 2 triangles 4 open 6\nsettle 16\n\
+        frame nodes 4 patches 3 triangles 10 open 6\n";
+    assert_eq!(rt; text.as_slice(), summary.as_slice());
+    Ok(())
+}
+
+#[test]
+fn a_bench_of_the_most_columns(rt: HostRuntime) -> Result<(), Fail> {
+    let (status, text) = made(rt.alloc(), &["bench", "16384"], 1000)?;
+    assert_eq!(rt; status, Status::Ok);
+    let summary = b"bench 16384\nfile 6356896 nodes 32769 patches 65535\n\
+        base patches 16384 triangles 32768 open 32770\nsettle 147454\n\
+        frame nodes 32768 patches 16385 triangles 98302 open 32770\n";
+    assert_eq!(rt; text.as_slice(), summary.as_slice());
     Ok(())
 }
 
