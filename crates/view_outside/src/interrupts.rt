@@ -2,7 +2,8 @@
 
 ghost use Rattle.std.specs.Prelude.{◌≤◌, length, IfOk};
 
-use std::io::{self, ErrorKind, Read, Seek, SeekFrom, Write};
+use std::io::{self, ErrorKind, Read, Write};
+use std::os::unix::fs::FileExt;
 
 /// How often a call that was interrupted is made again.
 const RETRIES: u32 = 16;
@@ -20,15 +21,17 @@ pub fn read<R: Read>(reader: &mut R, buffer: &mut [u8]) -> io::Result<usize>
     reader.read(buffer)
 }
 
-/// Goes to an offset from the start, and again where the system interrupted that.
-pub fn seek<S: Seek>(file: &mut S, offset: u64) -> io::Result<u64> {
+/// Reads what stands at an offset, and again where the system interrupted that.
+pub fn read_at<F: FileExt>(file: &F, offset: u64, buffer: &mut [u8]) -> io::Result<usize>
+    ensures { IfOk result (λ n. n ≤ length buffer.new) }
+{
     for _ in 0..RETRIES {
-        match file.seek(SeekFrom::Start(offset)) {
+        match file.read_at(buffer, offset) {
             Err(error) if error.kind() == ErrorKind::Interrupted => {}
             answer => return answer,
         }
     }
-    file.seek(SeekFrom::Start(offset))
+    file.read_at(buffer, offset)
 }
 
 /// Writes, and writes again where the system interrupted the write.

@@ -7,10 +7,10 @@ use crate::faults::FaultCount;
 use crate::interrupts;
 use crate::stores::Store;
 use std::alloc::{AllocError, Global};
-use std::fs;
-use std::io::{self, Read, Seek};
 use std::marker::Model;
+use std::os::unix::fs::FileExt;
 use std::rt::Files;
+use std::{fs, io};
 
 /// How many files are opened at most.
 const ROOM: usize = 2;
@@ -82,7 +82,10 @@ impl<R: Files + Drop> FolderStore<R> {
     }
 }
 
-impl<R: Files + Drop> Store for FolderStore<R> {
+impl<R: Files + Drop> Store for FolderStore<R>
+where
+    R::File: FileExt,
+{
     ghost files = { λ _. None };
 
     ghost faults = { λ store. store.faults };
@@ -100,8 +103,8 @@ impl<R: Files + Drop> Store for FolderStore<R> {
     }
 
     fn read_at(&mut self, file: u32, offset: u64, buffer: &mut [u8]) -> Result<usize, Failed> {
-        if let Some(opened) = self.opened.get_mut(file as usize) {
-            if let Ok(n) = read_from(&mut opened.file, offset, buffer) {
+        if let Some(opened) = self.opened.get(file as usize) {
+            if let Ok(n) = read_from(&opened.file, offset, buffer) {
                 self.taken = self.taken.saturating_add(n as u128);
                 return Ok(n);
             }
@@ -118,9 +121,8 @@ fn place_opened<F>(opened: &[OpenedFile<F>], name: &str) -> Option<usize>
 }
 
 /// Reads what stands at this offset of a file.
-fn read_from<F: Read + Seek>(file: &mut F, offset: u64, buffer: &mut [u8]) -> io::Result<usize>
+fn read_from<F: FileExt>(file: &F, offset: u64, buffer: &mut [u8]) -> io::Result<usize>
     ensures { IfOk result (λ n. n ≤ length buffer.new) }
 {
-    interrupts::seek(file, offset)?;
-    interrupts::read(file, buffer)
+    interrupts::read_at(file, offset, buffer)
 }
