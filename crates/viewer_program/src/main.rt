@@ -18,6 +18,7 @@ mod strips;
 mod tests;
 mod words;
 
+use read_ahead::ReadAhead;
 use run::run_still;
 use statuses::{plain_line, status_code, status_text};
 use std::alloc::AllocError;
@@ -33,7 +34,7 @@ fn run_program(rt: &HostRuntime) -> Result<Status, AllocError> {
         Ok(words) => words,
         Err(status) => return Ok(status),
     };
-    let mut store = FolderStore::new(rt, rt.alloc())?;
+    let mut store = ReadAhead::new(rt.alloc(), FolderStore::new(rt, rt.alloc())?);
     let mut script = StdSource::new(rt.stdin());
     let mut sink = StdSink::new(rt.stdout());
     Ok(run_still(rt.alloc(), &words, &mut store, &mut script, &mut sink))
