@@ -1,0 +1,154 @@
+#!/usr/bin/env python3
+"""Times the commands, on inputs that are made here and on files that are named: how docs/SPEED.md was measured.
+
+    tools/speed.py PROGRAM [FILE X Y Z FOCAL TAU LIMIT ..]
+
+PROGRAM is the built viewer (out/jichallay once the launcher has run). Each time is the least of several runs, in
+seconds: that on the clock, and the processor's (user and system). Beside them stand the greatest memory of the runs
+and their system calls, the latter where `strace` is there. Then come the growth shapes, at n and at 4n, and the ratio
+of the processor times.
+"""
+import os
+import pathlib
+import shutil
+import struct
+import subprocess
+import sys
+import tempfile
+import time
+
+RUNS = 7
+COLUMNS = 16384
+STEPS = 16000
+ALL = "4294967295"
+
+
+def once(program, words):
+    """Seconds on the clock and of the processor, and kilobytes of memory, of one run."""
+    begun = time.perf_counter()
+    child = subprocess.Popen([program, *words], stdin=subprocess.DEVNULL, stdout=subprocess.DEVNULL)
+    _, status, used = os.wait4(child.pid, 0)
+    clock = time.perf_counter() - begun
+    if os.waitstatus_to_exitcode(status) != 0:
+        raise SystemExit(f"{' '.join(words)}: ended with {status}")
+    return clock, used.ru_utime + used.ru_stime, used.ru_maxrss
+
+
+def least(program, words):
+    """The least of several runs, each number by itself; of the memory the greatest."""
+    clocks, times, memory = zip(*(once(program, words) for _ in range(RUNS)))
+    return min(clocks), min(times), max(memory)
+
+
+def system_calls(program, words):
+    """How many calls of the system a run makes, as far as `strace` tells."""
+    if not shutil.which("strace"):
+        return "-"
+    ran = subprocess.run(["strace", "-f", "-c", program, *words], stdin=subprocess.DEVNULL, stdout=subprocess.DEVNULL,
+                         stderr=subprocess.PIPE)
+    total = [line.split() for line in ran.stderr.decode().splitlines() if line.endswith("total")]
+    return total[0][-2] if len(total[0]) < 5 else total[0][-3]
+
+
+def spelled(nodes, patches):
+    """A patch file of version 1 whose nodes are one ball. A patch is its tail, its head, its points, its triangles."""
+    out = [b"BMTG", struct.pack("<HHII", 1, 0, nodes, len(patches))]
+    out += [struct.pack("<iiiII", 0, 0, 0, 100_000, 1)] * nodes
+    out += [struct.pack("<IIHH", tail, head, len(points), len(corners)) for tail, head, points, corners in patches]
+    for _, _, points, corners in patches:
+        out += [struct.pack("<iii", *point) for point in points]
+        out += [struct.pack("<HHH", *triangle) for triangle in corners]
+    return b"".join(out)
+
+
+def apart(i):
+    """The points of a triangle that shares none with those of other numbers."""
+    return [(4 * i, 0, 0), (4 * i + 2, 0, 0), (4 * i, 2, 0)]
+
+
+ONE = [(0, 1, 2)]
+
+
+def in_a_fan(i):
+    """The points of a triangle of a fan, which has a side in common with the triangles before and behind it."""
+    return [(0, 0, 0), (i, 1, 0), (i + 1, 1, 0)]
+
+
+def many_into_a_node(n):
+    """Patches of a triangle lead into a node, and one patch of all these triangles out of it."""
+    points = [(0, 0, 0)] + [(i, 1, 0) for i in range(n + 1)]
+    fan = [(0, i + 1, i + 2) for i in range(n)]
+    return spelled(3, [(0, 1, in_a_fan(i), ONE) for i in range(n)] + [(1, 2, points, fan)])
+
+
+def chain_of_nodes(n):
+    """Each node has a patch of one triangle from the node before it."""
+    return spelled(n + 1, [(i, i + 1, apart(0), ONE) for i in range(n)])
+
+
+def around_an_edge(n):
+    """One patch, whose triangles have one edge in common."""
+    points = [(0, 0, 0), (0, 0, 8)] + [(i + 1, 1, 0) for i in range(n)]
+    return spelled(2, [(0, 1, points, [(0, 1, i + 2) for i in range(n)])])
+
+
+def root_to_sink(n):
+    """Patches of a triangle, each from the root to the sink."""
+    return spelled(2, [(0, 1, apart(i), ONE) for i in range(n)])
+
+
+SHAPES = [many_into_a_node, chain_of_nodes, around_an_edge, root_to_sink]
+
+
+def tell(program, words, name):
+    clock, processor, memory = least(program, words)
+    calls = system_calls(program, words)
+    print(f"{name:34} {clock:8.3f} {processor:8.3f} {memory / 1024:8.1f} MB {calls:>8} calls", flush=True)
+
+
+def time_strip(program, folder):
+    strip = folder / "strip.bmtg"
+    strip.write_bytes(subprocess.run([program, "make", str(COLUMNS)], stdout=subprocess.PIPE, check=True).stdout)
+    name = str(strip)
+    eye = [str(2 * COLUMNS), "2", "0", "65536", "1", ALL]
+    tell(program, ["make", str(COLUMNS)], f"make {COLUMNS}")
+    tell(program, ["check", name], "check, strip")
+    tell(program, ["base", name], "base, strip")
+    tell(program, ["full", name, *eye], "full, strip, all triangles")
+    tell(program, ["pick", name, *eye, str(2 * COLUMNS), "2", "100", "0", "0", "-1"], "pick, strip, all triangles")
+    tell(program, ["cull", name, *eye, "1", "0", "0", str(2 * COLUMNS)], "cull, strip, the right half")
+    tell(program, ["sides", name, "1", "0", "0", str(2 * COLUMNS)], "sides, strip")
+    tell(program, ["convert", name, "2"], "convert to version 2, strip")
+    tell(program, ["bench", str(COLUMNS)], f"bench {COLUMNS}")
+
+
+def time_file(program, words):
+    name = pathlib.Path(words[0]).name
+    tell(program, ["check", words[0]], f"check, {name}")
+    tell(program, ["base", words[0]], f"base, {name}")
+    tell(program, ["full", *words], f"full, {name}")
+
+
+def time_growth(program, folder):
+    for shape in SHAPES:
+        taken = []
+        for n in (STEPS, 4 * STEPS):
+            file = folder / f"{shape.__name__}.bmtg"
+            file.write_bytes(shape(n))
+            taken.append(least(program, ["check", str(file)])[1])
+        print(f"{shape.__name__:34} {taken[0]:8.4f} {taken[1]:8.4f} ratio {taken[1] / taken[0]:.2f}", flush=True)
+
+
+def main(words):
+    if not words or len(words) % 7 != 1:
+        raise SystemExit(__doc__)
+    program = str(pathlib.Path(words[0]).resolve())
+    with tempfile.TemporaryDirectory() as made:
+        time_strip(program, pathlib.Path(made))
+        for at in range(1, len(words), 7):
+            time_file(program, words[at:at + 7])
+        time_growth(program, pathlib.Path(made))
+
+
+if __name__ == "__main__":
+    main(sys.argv[1:])
