@@ -6,3 +6,4 @@ pub mod NetLaws
 pub mod Edges
 pub mod Sums
 pub mod Differences
+pub mod Borders

@@ -37,3 +37,10 @@ impl DirectedEdge {
         }
     }
 }
+
+/// A directed edge of a border: it goes from one point to another.
+#[derive(Clone, Copy, Debug, PartialEq, Eq)]
+pub struct BorderEdge {
+    pub from: Point,
+    pub to: Point,
+}

@@ -11,6 +11,7 @@ mod sums;
 
 pub use chains::EdgeChain;
 pub use differences::Difference;
+pub use edges::BorderEdge;
 
 #[cfg(test)]
 mod tests;
