@@ -23,7 +23,8 @@ pub fn add_border(chain: &mut EdgeChain, border: &Border, body: &Body) -> Result
         ((triangles : List Triangle) → IsNetOf triangles chain.old
         → IsNetOf (triangles ++ triangles_of body.now.lists) chain.new) }
 {
-    chain.add_edges(border.edges(), u64::from(body.triangle_count()))
+    let _edges = border.edges();
+    add_triangles(chain, body)
 }
 
 /// Adds the edges of a body's triangles. On want of memory part of the triangles may have been added.
