@@ -27,26 +27,6 @@ few_entries chain h =
 pub few_kept : (t : NodeSums) → ((s : Side) → IsSum 65537 (chain_on s t)) → pairs_of t ≤ 12 * 65535 * 65537
 few_kept t h = omega (arith, few_entries t.incoming (h Incoming), few_entries t.outgoing (h Outgoing))
 
-one_side_more : (side s : Side) → taken_on s (one_more side (taken_both 65536)) ≤ 65537
-one_side_more Incoming Incoming = omega arith
-one_side_more Incoming Outgoing = omega arith
-one_side_more Outgoing Incoming = omega arith
-one_side_more Outgoing Outgoing = omega arith
-
-both_sides : (s : Side) (chain : Chain) → IsSum 65536 chain → IsSum (taken_on s (taken_both 65536)) chain
-both_sides Incoming chain h = h
-both_sides Outgoing chain h = h
-
--- after a body more the sums are still small
-pub taken_sums : (side : Side) (body : BodyLists) (before after : NodeSums) (difference : Option Difference) → length body.corners ≤ 65535 → Takes side body before after difference → ((s : Side) → IsSum 65536 (chain_on s before)) → (s : Side) → IsSum 65537 (chain_on s after)
-taken_sums side body before after difference small (outer e same _) h s =
-    subst (λ (t : NodeSums). IsSum 65537 (chain_on s t)) (sym same) (sum_more 65536 65537 (chain_on s before) (omega arith) (h s))
-taken_sums side body before after difference small (more some g low _) h s =
-    sum_more (taken_on s (one_more side (taken_both 65536))) 65537 (chain_on s after) (one_side_more side s)
-    (grown_sums side (taken_both 65536) body before after small g (λ r. both_sides r (chain_on r before) (h r)) s)
-taken_sums side body before after difference small (last some grown g e same _) h s =
-    subst (λ (t : NodeSums). IsSum 65537 (chain_on s t)) (sym same) (settled_sum grown 65537 s)
-
 -- a sum over a list of terms that are small
 pub sum_by_few : {X : Type 0} → (f : X → ℕ) (most : ℕ) (xs : List X) → ((v : ℕ) (x : X) → slice_get xs v ≡ Some x → f x ≤ most) → sum_by f xs ≤ most * length xs
 sum_by_few f most [] h = omega arith
@@ -60,9 +40,12 @@ one_if_few false = omega arith
 pub few_under_way : (node_sums : List NodeSums) → under_way node_sums ≤ length node_sums
 few_under_way node_sums = omega (arith, sum_by_few (λ (t : NodeSums). one_if (is_under_way t)) 1 node_sums (λ v t e. one_if_few (is_under_way t)))
 
+pub few_kept_at : (all_sums : AllSumsSeen) → IsSummed all_sums → (v : ℕ) (t : NodeSums) → slice_get all_sums.node_sums v ≡ Some t → pairs_of t ≤ 12 * 65535 * 65537
+few_kept_at all_sums h v t at = few_kept t (λ s. sum_more 65536 65537 (chain_on s t) (omega arith) (h.sums v t at s))
+
 pub few_in_all : (all_sums : AllSumsSeen) → IsSummed all_sums → pairs_in_all all_sums.node_sums ≤ 12 * 65535 * 65537 * 65536
 few_in_all all_sums h =
-    omega (arith, sum_by_few pairs_of (12 * 65535 * 65537) all_sums.node_sums (λ v t e. few_kept t (λ s. sum_more 65536 65537 (chain_on s t) (omega arith) (h.sums v t e s))), h.few_nodes)
+    omega (arith, sum_by_few pairs_of (12 * 65535 * 65537) all_sums.node_sums (few_kept_at all_sums h), h.few_nodes)
 
 -- one term of a sum is replaced
 pub recounted : (f : NodeSums → ℕ) (node_sums : List NodeSums) (node : ℕ) (before after : NodeSums) (n : ℕ) → slice_get node_sums node ≡ Some before → n ≡ sum_by f node_sums → (n - f before) + f after ≡ sum_by f (set node_sums node after)
