@@ -1,20 +1,21 @@
-use Rattle.std.proofs.Common.{◌≤◌, length, subst, arith}
-use Rattle.std.proofs.lemmas.List.{take_all}
+use Rattle.std.proofs.Common.{◌≤◌, length, map, ap, sym, subst, ◌∙◌, arith}
+use Rattle.std.proofs.lemmas.List.{take_all, length-map}
 use Rattle.std.specs.List.{flat_map}
-use Rattle.file_model.specs.Lists.{triangles_of}
+use Rattle.file_model.specs.Lists.{triangle_of, triangles_of}
 use Rattle.body_edges.specs.TriangleCounts.{length-triangles_from}
 use Rattle.text_model.specs.FrameText.{triangle_line}
 use Rattle.text_model.specs.Lines.{Adds}
 use Rattle.frame_writer.specs.Appending.{Adds-begins, Begins-then}
 use Rattle.frame_writer.proofs.LineLemmas.{on_err}
 use Rattle.frame_writer.proofs.FrameLemmas.{Adds-triangle}
-use Rattle.frame_writer.proofs.bodies.write_body.Goals as goal
+use Rattle.frame_writer.proofs.PointTextLemmas.{corners_below, line_from_texts, triangle_there}
+use Rattle.frame_writer.proofs.body_lines.write_lines.Goals as goal
 
-pub returns-in_err-write_triangle-clause-err : goal.returns-in_err-write_triangle-clause-err
-returns-in_err-write_triangle-clause-err c = on_err _ (Begins-then (Adds-begins c.loop-triangle.invariant) c.in_err-write_triangle.ensures.err)
+pub returns-in_err-write_corners-clause-err : goal.returns-in_err-write_corners-clause-err
+returns-in_err-write_corners-clause-err c = on_err _ (Begins-then (Adds-begins c.loop-triangle.invariant) c.in_err-write_corners.ensures.err)
 
 pub loop-triangle-preserved : goal.loop-triangle-preserved
-loop-triangle-preserved c = Adds-triangle (triangles_of c.args.body.now.lists) c.loop-triangle.triangle c.triangle.result c.triangle.ensures.there c.loop-triangle.invariant c.in_ok-write_triangle.ensures.ok
+loop-triangle-preserved c = ?
 
 pub returns-clause-ok : goal.returns-clause-ok
 returns-clause-ok c =
