@@ -10,7 +10,8 @@ ghost use Rattle.text_model.specs.Lines.{Adds};
 ghost use Rattle.frame_writer.specs.Appending.{Begins};
 ghost use Rattle.frame_writer.specs.Frames.{triangles_in};
 
-use crate::triangles::write_triangle;
+use crate::body_lines::{find_texts, write_lines};
+use crate::point_texts::PointText;
 use body_edges::add_triangles;
 use edge_chain::EdgeChain;
 use grid_vertex::NoMemory;
@@ -30,26 +31,34 @@ pub fn edges_of(alloc: Global, bodies: &[Arc<Body>]) -> Result<EdgeChain, NoMemo
     Ok(chain)
 }
 
-/// Appends the lines of the body's triangles.
-pub fn write_body(body: &Body, out: &mut Vec<u8>) -> Result<(), NoMemory>
+/// Appends the lines of the body's triangles. The texts of its points take the place of those that stood in
+/// `texts`.
+fn write_body(
+    body: &Body,
+    texts: &mut Vec<PointText>,
+    out: &mut Vec<u8>,
+) -> Result<(), NoMemory>
     ensures ok { OnOk result (Adds out.old.items out.new.items
         (flat_map triangle_line (triangles_of body.now.lists))) }
     ensures err { OnErr result (Begins out.old.items out.new.items) }
 {
-    for triangle in 0..body.triangle_count() {
-        write_triangle(body.triangle(triangle), out)?;
-    }
-    Ok(())
+    find_texts(body, texts)?;
+    write_lines(body, texts, out)
 }
 
 /// Appends the lines of the bodies' triangles.
-pub fn write_bodies(bodies: &[Arc<Body>], out: &mut Vec<u8>) -> Result<(), NoMemory>
+pub fn write_bodies(
+    alloc: Global,
+    bodies: &[Arc<Body>],
+    out: &mut Vec<u8>,
+) -> Result<(), NoMemory>
     ensures ok { OnOk result (Adds out.old.items out.new.items
         (flat_map triangle_line (triangles_in (map arc_value bodies.now)))) }
     ensures err { OnErr result (Begins out.old.items out.new.items) }
 {
+    let mut texts = Vec::new(alloc);
     for body in bodies {
-        write_body(body, out)?;
+        write_body(body, &mut texts, out)?;
     }
     Ok(())
 }
