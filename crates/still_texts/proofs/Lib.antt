@@ -1,3 +1,4 @@
 pub mod ShownLemmas
 pub mod GivenLemmas
-pub mod FullLemmas
+pub mod RoundLemmas
+pub mod SideLemmas

@@ -50,6 +50,13 @@ impl Planes {
         true
     }
 
+    /// How many triangles a refined frame has at most.
+    pub fn limit(&self) -> u32
+        ensures { result ≡ self.now.view.limit }
+    {
+        self.view.limit()
+    }
+
     // Whether the ball is behind one of the half-spaces.
     fn is_culled(&self, ball: &Ball) -> bool
         requires centre { IsTrue (is_in_grid ball.now.centre) }
