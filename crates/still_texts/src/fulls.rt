@@ -61,5 +61,5 @@ pub fn cull_text<S: Store>(
     ensures store { OnlyRead ReadFault (S.files store.old) (S.files store.new)
         (S.faults store.old) (S.faults store.new) result }
 {
-    round_text(alloc, mesh, planes, planes.limit(), store, file)
+    round_text(alloc, mesh, planes, planes.view().limit(), store, file)
 }

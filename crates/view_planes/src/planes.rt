@@ -50,11 +50,11 @@ impl Planes {
         true
     }
 
-    /// How many triangles a refined frame has at most.
-    pub fn limit(&self) -> u32
-        ensures { result ≡ self.now.view.limit }
+    /// The view alone, without the half-spaces.
+    pub fn view(&self) -> &View
+        ensures { result.now ≡ self.now.view }
     {
-        self.view.limit()
+        &self.view
     }
 
     // Whether the ball is behind one of the half-spaces.

@@ -62,6 +62,6 @@ fn a_seventh_half_space_is_refused(rt: HostRuntime) -> Result<(), Fail> {
         assert!(rt; planes.add(plane));
     }
     assert!(rt; !planes.add(plane));
-    assert_eq!(rt; planes.limit(), 7);
+    assert_eq!(rt; planes.view().limit(), 7);
     Ok(())
 }
