@@ -2,3 +2,4 @@ pub mod ShownLemmas
 pub mod GivenLemmas
 pub mod RoundLemmas
 pub mod SideLemmas
+pub mod PickLemmas

@@ -17,6 +17,8 @@ ghost use Rattle.view_planes.specs.HalfSpaces.{HalfSpaceSeen};
 ghost use Rattle.view_planes.specs.Planes.{PlanesSeen};
 ghost use Rattle.still_texts.specs.Full.{IsGranted, IsFullText, IsCullText};
 ghost use Rattle.still_texts.specs.Sides.{IsSidesText};
+ghost use Rattle.ray_pick.specs.Rays.{RaySeen};
+ghost use Rattle.still_texts.specs.Picks.{IsPickText};
 
 /// The line of an accepted file is one.
 pub fn an_accepted_file_has_one_line()
@@ -57,4 +59,11 @@ pub fn a_culled_view_has_one_text()
 pub fn the_sides_of_a_plane_have_one_text()
     ensures { (plane : HalfSpaceSeen) (file : FileLists) (text other : List ℕ)
         → IsSidesText plane file text → IsSidesText plane file other → text ≡ other }
+{}
+
+/// The line of what a ray meets first in a view's frame is one.
+pub fn a_pick_has_one_text()
+    ensures { (view : ViewSeen) (ray : RaySeen) (file : FileLists) (root : ℕ) (text other : List ℕ)
+        → IsPickText view ray file root text → IsPickText view ray file root other
+        → text ≡ other }
 {}
