@@ -10,7 +10,7 @@ ghost use Rattle.number_words.specs.Numbers.{number_in, signed_in};
 
 mod reading;
 
-pub use reading::{read_number, read_signed};
+pub use reading::{read_number, read_signed, read_wide_signed};
 
 /// A word spells a number exactly where it is what the number prints as. What is printed has at most
 /// 64 digits.

@@ -34,16 +34,26 @@ pub fn read_number(word: &[u8], most: u64) -> Option<u64>
 }
 
 /// The integer that the word spells, if it is from `-most` to `most`.
+pub fn read_wide_signed(word: &[u8], most: u64) -> Option<i64>
+    requires { most < 2 ^ 63 }
+    ensures value { result ≡ signed_in most word.now }
+    ensures bound { IfSome result (λ integer. unsigned_abs integer ≤ most) }
+{
+    match word.strip_prefix(b"-") {
+        Some(digits) => match read_number(digits, most)? {
+            0 => None,
+            number => Some(-(number as i64)),
+        },
+        None => Some(read_number(word, most)? as i64),
+    }
+}
+
+/// The same, for bounds of an `i32`.
 pub fn read_signed(word: &[u8], most: u32) -> Option<i32>
     requires { most < 2 ^ 31 }
     ensures value { result ≡ signed_in most word.now }
     ensures bound { IfSome result (λ integer. unsigned_abs integer ≤ most) }
 {
-    match word.strip_prefix(b"-") {
-        Some(digits) => match read_number(digits, u64::from(most))? {
-            0 => None,
-            number => Some(-(number as i32)),
-        },
-        None => Some(read_number(word, u64::from(most))? as i32),
-    }
+    let integer = read_wide_signed(word, u64::from(most))?;
+    Some(integer as i32)
 }

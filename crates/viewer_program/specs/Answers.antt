@@ -11,7 +11,7 @@ use Rattle.text_model.specs.AcceptedText.{IsAcceptedText, IsAcceptedLine}
 use Rattle.still_texts.specs.Shown.{IsBaseText, IsStillText}
 use Rattle.still_texts.specs.Full.{IsFullText}
 use Rattle.viewer_program.specs.declared.commands.Command.{Command}
-use Rattle.viewer_program.specs.declared.commands.Command.TheVariants.{Base, Check, Full, Convert}
+use Rattle.viewer_program.specs.declared.commands.Command.TheVariants.{Base, Check, Full, Convert, Cull, Sides}
 
 -- the text that a command writes of an accepted file with this root
 abbrev pub IsTextOf : Command → FileLists → ℕ → List ℕ → Type 0
@@ -19,6 +19,8 @@ IsTextOf Base file root text = IsBaseText file root text
 IsTextOf Check file root text = IsAcceptedText file root text
 IsTextOf (Full view) file root text = IsFullText view file root text
 IsTextOf (Convert version) file root text = IsPatchFile (with_version version file) text
+IsTextOf (Cull planes) file root text = ⊥
+IsTextOf (Sides plane) file root text = ⊥
 
 -- a text of a file of these bytes, which are an accepted file
 pub record IsOfAccepted (is_text : FileLists → ℕ → List ℕ → Type 0) (bytes text : List ℕ) : Type 0 where
@@ -60,3 +62,5 @@ IsTextOfKind Base text = IsStillText text
 IsTextOfKind Check text = IsAcceptedLine text
 IsTextOfKind (Full view) text = IsStillText text
 IsTextOfKind (Convert version) text = IsFileText version text
+IsTextOfKind (Cull planes) text = IsStillText text
+IsTextOfKind (Sides plane) text = ⊥

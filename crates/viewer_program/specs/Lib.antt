@@ -1,3 +1,4 @@
+pub mod Spelt
 pub mod Commands
 pub mod Answers
 pub mod Refusals

@@ -1,9 +1,10 @@
 //! The commands that the program's words name.
 
 use error_metric::View;
+use view_planes::{HalfSpace, Planes};
 
 /// What the words ask for.
-#[derive(Clone, Copy, Debug, PartialEq, Eq)]
+#[derive(Drop)]
 pub enum Command {
     /// The frame of the root's patches.
     Base,
@@ -13,8 +14,13 @@ pub enum Command {
     Full(View),
     /// The file in a version.
     Convert(u16),
+    /// The same frame as of a view, without what is behind a half-space.
+    Cull(Planes),
+    /// On which side of a half-space each node lies.
+    Sides(HalfSpace),
 }
 
 mod reading;
+mod spelt;
 
 pub use reading::{command_of, file_name};

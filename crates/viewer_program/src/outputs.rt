@@ -60,20 +60,20 @@ fn line_output(alloc: Global, mesh: &Mesh) -> Result<Output, Status>
 // What the command writes of the mesh. Bodies that it writes are read again.
 fn output_of<S: Store>(
     alloc: Global,
-    command: Command,
+    command: &Command,
     mesh: &Mesh,
     store: &mut S,
     file: u32,
 ) -> Result<Output, Status>
-    requires known { IsKnown command }
+    requires known { IsKnown command.now }
     requires file { HasFile (S.files store.old) file }
     ensures told { IfSome (file_bytes (S.files store.old) file)
         (λ bytes.
         (lists : FileLists) → file_in bytes ≡ Ok lists → IsMeshOf lists mesh.now
-        → GivesOutput command lists mesh.now.lists.root result) }
-    ensures kind { IfOk result (λ output. IsTextOfKind command (output_text output)) }
+        → GivesOutput command.now lists mesh.now.lists.root result) }
+    ensures kind { IfOk result (λ output. IsTextOfKind command.now (output_text output)) }
     ensures writable { IfOk result IsWritable }
-    ensures stop { IfErr result (CanStop command) }
+    ensures stop { IfErr result (CanStop command.now) }
     ensures changed { IfErr result IsChange }
     ensures store { OnlyRead statuses.ReadFault (S.files store.old) (S.files store.new)
         (S.faults store.old) (S.faults store.new) result }
@@ -81,28 +81,29 @@ fn output_of<S: Store>(
     match command {
         Command::Base => text_output(base_text(alloc, mesh, store, file)),
         Command::Check => line_output(alloc, mesh),
-        Command::Full(view) => text_output(full_text(alloc, mesh, &view, store, file)),
-        Command::Convert(version) => convert_output(alloc, version, mesh, store, file),
+        Command::Full(view) => text_output(full_text(alloc, mesh, view, store, file)),
+        Command::Convert(version) => convert_output(alloc, *version, mesh, store, file),
+        Command::Cull(_) | Command::Sides(_) => Err(Status::Usage),
     }
 }
 
 /// What the command writes of the file, or the status that stops it. The file is checked first.
 pub fn command_output<S: Store>(
     alloc: Global,
-    command: Command,
+    command: &Command,
     store: &mut S,
     file: u32,
 ) -> Result<Output, Status>
-    requires known { IsKnown command }
+    requires known { IsKnown command.now }
     requires file { HasFile (S.files store.old) file }
     ensures told { IfSome (file_bytes (S.files store.old) file)
         (λ bytes.
         MatchResult result
-        (λ output. IsOfAccepted (IsTextOf command) bytes (output_text output))
-        (StopsAt command bytes)) }
-    ensures kind { IfOk result (λ output. IsTextOfKind command (output_text output)) }
+        (λ output. IsOfAccepted (IsTextOf command.now) bytes (output_text output))
+        (StopsAt command.now bytes)) }
+    ensures kind { IfOk result (λ output. IsTextOfKind command.now (output_text output)) }
     ensures writable { IfOk result IsWritable }
-    ensures stop { IfErr result (CanStop command) }
+    ensures stop { IfErr result (CanStop command.now) }
     ensures changed { IfErr result IsChange }
     ensures store { OnlyRead statuses.ReadFault (S.files store.old) (S.files store.new)
         (S.faults store.old) (S.faults store.new) result }

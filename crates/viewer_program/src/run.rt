@@ -44,17 +44,17 @@ fn write_output<O: Sink>(output: &Output, sink: &mut O) -> Result<(), file_model
 // Writes what the command asks for of the file of this name.
 fn run_command<S: Store, O: Sink>(
     alloc: Global,
-    command: Command,
+    command: &Command,
     name: &str,
     store: &mut S,
     sink: &mut O,
 ) -> Status
-    requires { IsKnown command }
+    requires { IsKnown command.now }
     ensures told { IfSome (named_bytes (S.files store.old) name.now)
         (λ bytes.
-        Ends (IsOfAccepted (IsTextOf command) bytes) (StopsAt command bytes) result
+        Ends (IsOfAccepted (IsTextOf command.now) bytes) (StopsAt command.now bytes) result
         (O.written sink.old) (O.written sink.new)) }
-    ensures statuses { Ends (IsTextOfKind command) (CanStop command) result (O.written sink.old)
+    ensures statuses { Ends (IsTextOfKind command.now) (CanStop command.now) result (O.written sink.old)
         (O.written sink.new) }
     ensures changed { IsChange result }
     ensures quiet { IsQuiet result (O.written sink.old) (O.written sink.new) }
@@ -174,7 +174,7 @@ pub fn run_still<S: Store, I: Source, O: Sink>(
     ensures write_fault { OnlyIf WriteFault (Rose (O.faults sink.old) (O.faults sink.new)) result }
 {
     match command_of(words) {
-        Some(command) => run_command(alloc, command, file_name(words), store, sink),
+        Some(command) => run_command(alloc, &command, file_name(words), store, sink),
         None => match play_of(words) {
             Some(play) => run_play(alloc, &play, file_name(words), store, script, sink),
             None => run_without_file(alloc, words, sink),

@@ -1,15 +1,11 @@
 //! Reading the words.
 
-ghost use Rattle.std.specs.Prelude.{◌≡◌, map, string_bytes, IfSome, IsTrue};
-ghost use Rattle.file_model.specs.Rules.{is_version};
-ghost use Rattle.number_words.specs.Numbers.{number_in, signed_in};
-ghost use Rattle.viewer_program.specs.Commands.{command_in, command_with_file_in, command_with_version_in, command_with_view_in, version_in, view_in, point_in, name_in, IsKnown};
+ghost use Rattle.std.specs.Prelude.{◌≡◌, map, string_bytes, IfSome};
+ghost use Rattle.viewer_program.specs.Commands.{command_in, command_named, command_alone, convert_in, full_in, cull_in, sides_in, name_in, IsKnown};
 
 use super::Command;
-use error_metric::View;
-use grid_vertex::Point;
-use number_words::{read_number, read_signed};
-use round_model::{EYE_REACH, GREATEST_FOCAL, GREATEST_THRESHOLD};
+use super::spelt::{read_half_space, read_planes, read_point, read_version, read_view};
+use round_model::EYE_REACH;
 
 /// The command that the words name; none where they are no command. They don't include the
 /// program's name.
@@ -17,90 +13,93 @@ pub fn command_of(words: &[String]) -> Option<Command>
     ensures value { result ≡ command_in (map string_bytes words.now) }
     ensures known { IfSome result IsKnown }
 {
-    match words.len() {
-        2 => command_with_file(words[0].as_str(), words[1].as_str()),
-        3 => command_with_version(words[0].as_str(), words[1].as_str(), words[2].as_str()),
-        8 => {
-            let eye = read_point(words[2].as_str(), words[3].as_str(), words[4].as_str());
-            let view = read_view(eye, words[5].as_str(), words[6].as_str(), words[7].as_str());
-            command_with_view(words[0].as_str(), words[1].as_str(), view)
-        }
+    match words {
+        [first, name, numbers @ ..] => command_named(first.as_str(), name.as_str(), numbers),
         _ => None,
     }
 }
 
-// The command of a word and a file's name.
-fn command_with_file(first: &str, name: &str) -> Option<Command>
-    ensures value { result ≡ command_with_file_in first.now name.now }
+// The command of a word, a file's name and the words behind it.
+fn command_named(first: &str, name: &str, words: &[String]) -> Option<Command>
+    ensures value { result ≡ command_named first.now name.now (map string_bytes words.now) }
     ensures known { IfSome result IsKnown }
 {
     if name.is_empty() {
         return None;
     }
     match first {
-        "base" => Some(Command::Base),
-        "check" => Some(Command::Check),
+        "base" => command_alone(Command::Base, words),
+        "check" => command_alone(Command::Check, words),
+        "full" => read_full(words),
+        "convert" => read_convert(words),
+        "cull" => read_cull(words),
+        "sides" => read_sides(words),
         _ => None,
     }
 }
 
-// The command of a word, a file's name and a version.
-fn command_with_version(first: &str, name: &str, version: &str) -> Option<Command>
-    ensures value { result ≡ command_with_version_in first.now name.now (version_in version.now) }
+// The command, where there is no word.
+fn command_alone(command: Command, words: &[String]) -> Option<Command>
+    requires { IsKnown command }
+    ensures value { result ≡ command_alone command (map string_bytes words.now) }
     ensures known { IfSome result IsKnown }
 {
-    if name.is_empty() || first != "convert" {
-        return None;
-    }
-    Some(Command::Convert(read_version(version)?))
+    words.is_empty().then_some(command)
 }
 
-// The version that a word spells.
-fn read_version(word: &str) -> Option<u16>
-    ensures value { result ≡ version_in word.now }
-    ensures known { IfSome result (λ version. IsTrue (is_version version)) }
+// The view that the words spell.
+fn read_full(words: &[String]) -> Option<Command>
+    ensures value { result ≡ full_in (map string_bytes words.now) }
+    ensures known { IfSome result IsKnown }
 {
-    match word {
-        "1" => Some(1),
-        "2" => Some(2),
+    match words {
+        [x, y, z, focal, threshold, limit] => {
+            let eye = read_point(EYE_REACH, x.as_str(), y.as_str(), z.as_str());
+            let view = read_view(eye, focal.as_str(), threshold.as_str(), limit.as_str())?;
+            Some(Command::Full(view))
+        }
         _ => None,
     }
 }
 
-// The command of a word, a file's name and a view.
-fn command_with_view(first: &str, name: &str, view: Option<View>) -> Option<Command>
-    ensures value { result ≡ command_with_view_in first.now name.now view }
+// The version that the word spells.
+fn read_convert(words: &[String]) -> Option<Command>
+    ensures value { result ≡ convert_in (map string_bytes words.now) }
     ensures known { IfSome result IsKnown }
 {
-    if name.is_empty() || first != "full" {
-        return None;
+    match words {
+        [version] => Some(Command::Convert(read_version(version.as_str())?)),
+        _ => None,
     }
-    Some(Command::Full(view?))
 }
 
-// The point that three words spell.
-fn read_point(x: &str, y: &str, z: &str) -> Option<Point>
-    ensures { result
-        ≡ point_in (signed_in EYE_REACH x.now) (signed_in EYE_REACH y.now)
-        (signed_in EYE_REACH z.now) }
+// The view and the half-spaces that the words spell.
+fn read_cull(words: &[String]) -> Option<Command>
+    ensures value { result ≡ cull_in (map string_bytes words.now) }
+    ensures known { IfSome result IsKnown }
 {
-    let x = read_signed(x.as_bytes(), EYE_REACH)?;
-    let y = read_signed(y.as_bytes(), EYE_REACH)?;
-    let z = read_signed(z.as_bytes(), EYE_REACH)?;
-    Some(Point { x, y, z })
+    match words {
+        [x, y, z, focal, threshold, limit, numbers @ ..] => {
+            let eye = read_point(EYE_REACH, x.as_str(), y.as_str(), z.as_str());
+            let view = read_view(eye, focal.as_str(), threshold.as_str(), limit.as_str());
+            Some(Command::Cull(read_planes(view, numbers)?))
+        }
+        _ => None,
+    }
 }
 
-// The view from an eye that three words spell.
-fn read_view(eye: Option<Point>, focal: &str, threshold: &str, limit: &str) -> Option<View>
-    ensures { result
-        ≡ view_in eye (number_in GREATEST_FOCAL focal.now)
-        (number_in GREATEST_THRESHOLD threshold.now) (number_in 4294967295 limit.now) }
+// The half-space that the words spell.
+fn read_sides(words: &[String]) -> Option<Command>
+    ensures value { result ≡ sides_in (map string_bytes words.now) }
+    ensures known { IfSome result IsKnown }
 {
-    let eye = eye?;
-    let focal = read_number(focal.as_bytes(), u64::from(GREATEST_FOCAL))?;
-    let threshold = read_number(threshold.as_bytes(), u64::from(GREATEST_THRESHOLD))?;
-    let limit = read_number(limit.as_bytes(), u64::from(u32::MAX))?;
-    View::new(eye, focal as u32, threshold as u32, limit as u32)
+    match words {
+        [a, b, c, d] => {
+            let plane = read_half_space(a.as_str(), b.as_str(), c.as_str(), d.as_str())?;
+            Some(Command::Sides(plane))
+        }
+        _ => None,
+    }
 }
 
 /// The name of the file that the words name; empty where they name none.

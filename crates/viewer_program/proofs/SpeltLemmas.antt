@@ -1,0 +1,2 @@
+-- Words one by one.
+use Rattle.std.proofs.Common.{◌≡◌, List}

@@ -1,0 +1,59 @@
+-- What words behind a file's name spell.
+use Rattle.std.specs.Prelude.{ℕ, List, [], ◌∷◌, Option, Some, None, ℤ, codes, bytes_eq, if◌then◌else◌}
+use Rattle.grid_vertex.specs.declared.points.Point.{Point}
+use Rattle.number_words.specs.Numbers.{number_in, signed_in}
+use Rattle.round_model.specs.declared.limits.TheConstants.{EYE_REACH, GREATEST_FOCAL, GREATEST_THRESHOLD}
+use Rattle.round_model.specs.Views.{ViewSeen, view_of}
+use Rattle.view_planes.specs.declared.half_spaces.TheConstants.{STEEPEST, FARTHEST}
+use Rattle.view_planes.specs.HalfSpaces.{HalfSpaceSeen, half_space_of}
+use Rattle.view_planes.specs.Planes.{PlanesSeen, has_room, with_plane}
+
+-- the version that a word spells
+abbrev pub version_in : List ℕ → Option ℕ
+version_in word =
+    if bytes_eq word (codes "1") then Some 1 else
+    if bytes_eq word (codes "2") then Some 2 else
+    None
+
+abbrev pub point_from : Option ℤ → Option ℤ → Option ℤ → Option Point
+point_from (Some x) (Some y) (Some z) = Some (record { x = x; y = y; z = z })
+point_from x y z = None
+
+-- the point that three words spell, with coordinates so far from 0 at most
+abbrev pub point_in : ℕ → List ℕ → List ℕ → List ℕ → Option Point
+point_in reach x y z = point_from (signed_in reach x) (signed_in reach y) (signed_in reach z)
+
+-- the view of these numbers, where all are there and in their ranges
+abbrev pub view_from : Option Point → Option ℕ → Option ℕ → Option ℕ → Option ViewSeen
+view_from (Some eye) (Some focal) (Some threshold) (Some limit) = view_of eye focal threshold limit
+view_from eye focal threshold limit = None
+
+-- the view from an eye, of what three words spell
+abbrev pub view_in : Option Point → List ℕ → List ℕ → List ℕ → Option ViewSeen
+view_in eye focal threshold limit = view_from eye (number_in GREATEST_FOCAL focal) (number_in GREATEST_THRESHOLD threshold) (number_in 4294967295 limit)
+
+abbrev pub half_space_from : Option Point → Option ℤ → Option HalfSpaceSeen
+half_space_from (Some normal) (Some level) = half_space_of normal level
+half_space_from normal level = None
+
+-- the half-space that four words spell
+abbrev pub half_space_in : List ℕ → List ℕ → List ℕ → List ℕ → Option HalfSpaceSeen
+half_space_in a b c d = half_space_from (point_in STEEPEST a b c) (signed_in FARTHEST d)
+
+-- a half-space is put behind the others, where it is there and there is room
+abbrev pub with_one : PlanesSeen → Option HalfSpaceSeen → Option PlanesSeen
+with_one seen None = None
+with_one seen (Some plane) = if has_room seen.planes then Some (with_plane seen plane) else None
+
+-- those that the words spell, four each, are put behind the others
+unfoldable pub with_all : Option PlanesSeen → List (List ℕ) → Option PlanesSeen
+with_all None words = None
+with_all (Some seen) [] = Some seen
+with_all (Some seen) (a ∷ b ∷ c ∷ d ∷ words) = with_all (with_one seen (half_space_in a b c d)) words
+with_all (Some seen) words = None
+
+-- the view with the half-spaces that the words spell, one or more
+abbrev pub planes_in : Option ViewSeen → List (List ℕ) → Option PlanesSeen
+planes_in None words = None
+planes_in (Some view) [] = None
+planes_in (Some view) words = with_all (Some (record { view = view; planes = [] })) words
