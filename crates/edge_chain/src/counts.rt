@@ -1,6 +1,6 @@
 //! The number of edges whose sums don't cancel, in a list that needn't be gathered.
 
-ghost use Rattle.std.specs.Prelude.{◌≡◌, ◌+◌, ◌<◌, ◌^◌, length};
+ghost use Rattle.std.specs.Prelude.{◌≡◌, ◌+◌, ◌<◌, ◌≤◌, ◌^◌, length};
 ghost use Rattle.edge_chain.specs.Edges.{edge_cmp};
 ghost use Rattle.edge_chain.specs.Totals.{weight, normal, some};
 
