@@ -5,6 +5,8 @@ use Rattle.std.specs.List.Sorted.{IsPermutation}
 use Rattle.std.proofs.lemmas.List.Sums.{sum_by-cons, sum_by-append}
 use Rattle.std.proofs.lemmas.List.Sorted.{sum_by-IsPermutation}
 use Rattle.grid_vertex.specs.declared.points.Point.{Point}
+use Rattle.grid_vertex.specs.Points.{is_same_point}
+use Rattle.file_model.specs.Lists.{point_at_place}
 use Rattle.mesh_model.specs.Nets.{one_if, is_edge}
 use Rattle.body_edges.specs.Keys.{from_of, to_of, are_opposite, edge_between, keys_times, HaveSameNet}
 use Rattle.body_edges.proofs.KeyLaws.{opposite_ends}
@@ -48,7 +50,11 @@ either_way false false = refl
 
 -- an opposite key's edge goes from a to b where the key's goes from b to a
 opposite_times : (points : List Point) (first second : ℕ) (a b : Point) → (from_of first ≡ to_of second) × (from_of second ≡ to_of first) → key_times points a b first ≡ key_times points b a second
-opposite_times points first second a b h = ?
+unfolding edge_between
+opposite_times points first second a b h =
+    ap (λ (from : ℕ). one_if (is_edge a b (point_at_place points from) (point_at_place points (to_of first)))) h.0
+    ∙ ap (λ (to : ℕ). one_if (is_edge a b (point_at_place points (to_of second)) (point_at_place points to))) (sym h.1)
+    ∙ either_way (is_same_point (point_at_place points (to_of second)) a) (is_same_point (point_at_place points (from_of second)) b)
 
 -- a key and its opposite side by side may go
 pub same_net_dropped : (front back : List ℕ) (first second : ℕ) → are_opposite first second ≡ true → HaveSameNet (front ++ back) ((front ++ first ∷ []) ++ second ∷ back)

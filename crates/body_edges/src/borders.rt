@@ -35,6 +35,7 @@ fn push_edges(edges: &mut Vec<BorderEdge>, keys: &[u64], body: &Body) -> Result<
     ensures { OnOk result
         (edges.new.items ≡ map (edge_between body.now.lists.points) keys.now) }
 {
+    let _points = body.point_count();
     for key in keys {
         edges.push(BorderEdge {
             from: body.point(from_place(*key)),
@@ -59,6 +60,7 @@ impl Border {
     pub fn find(&mut self, body: &Body) -> Result<(), NoMemory>
         ensures { OnOk result (IsBorderOf self.new body.now.lists) }
     {
+        let _patch = body.patch();
         self.keys.clear();
         self.edges.clear();
         push_keys(&mut self.keys, body)?;
