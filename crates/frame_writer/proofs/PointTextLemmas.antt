@@ -5,7 +5,7 @@ use Rattle.std.specs.Option.{option_map}
 use Rattle.std.specs.List.{slice_get, list_all}
 use Rattle.std.proofs.lemmas.Bool.{and_parts, ltb-true}
 use Rattle.std.proofs.lemmas.Fmt.{length-decimal-le}
-use Rattle.std.proofs.lemmas.List.{take_more, map-append}
+use Rattle.std.proofs.lemmas.List.{take_more, length-map, map-append}
 use Rattle.std.proofs.lemmas.List.Elements.{All-get_or}
 use Rattle.std.proofs.lemmas.List.Sums.{AllPass-from_list_all}
 use Rattle.std.proofs.lemmas.Option.{slice_get-map, slice_get_within, get_or_from_slice_get}
@@ -35,14 +35,13 @@ texts_more points i p at =
     let here = get_or_from_slice_get points i p p at in
     sym (ap (map shown_point) (take_more points i p within) ∙ map-append shown_point (take i points) (get_or points i p ∷ []) ∙ ap (λ (q : Point). map shown_point (take i points) ++ (shown_point q ∷ [])) here)
 
--- the three corners are places of points
+-- the three corners are places below the count
 pub record AreBelow (count : ℕ) (t : Corners) : Type 0 where
   pub a : t.a < count
   pub b : t.b < count
   pub c : t.c < count
 
--- a body's corners are places of its points
-pub corners_below : (version : ℕ) (body : BodyLists) (k : ℕ) (t : Corners) → IsTrue (is_body version body) → slice_get body.corners k ≡ Some t → AreBelow (length body.points) t
+corners_below : (version : ℕ) (body : BodyLists) (k : ℕ) (t : Corners) → IsTrue (is_body version body) → slice_get body.corners k ≡ Some t → AreBelow (length body.points) t
 unfolding is_body
 corners_below version body k t rules at =
     let n = length body.points in
@@ -54,6 +53,11 @@ corners_below version body k t rules at =
     let ab = and_parts (ltb t.a n && ltb t.b n) (ltb t.c n) placed.0 in
     let each = and_parts (ltb t.a n) (ltb t.b n) ab.0 in
     record { a = ltb-true t.a n each.0; b = ltb-true t.b n each.1; c = ltb-true t.c n ab.1 }
+
+-- each corner of a body has a text where each of its points has one
+pub corners_with_texts : (version : ℕ) (body : BodyLists) (texts : List (List ℕ)) (k : ℕ) (t : Corners) → IsTrue (is_body version body) → texts ≡ map shown_point body.points → slice_get body.corners k ≡ Some t → AreBelow (length texts) t
+corners_with_texts version body texts k t rules are at =
+    subst (λ (n : ℕ). AreBelow n t) (sym (ap length are ∙ length-map body.points shown_point)) (corners_below version body k t rules at)
 
 shown_some : (o : Option Point) (text : List ℕ) → Some text ≡ option_map shown_point o → text ≡ shown_point (unwrap_or o origin_point)
 shown_some None text e = cc e
