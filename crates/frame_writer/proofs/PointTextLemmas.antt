@@ -29,11 +29,12 @@ pub length-digits_before : (n : ℕ) (before after : List ℕ) → n < 2 ^ 32 �
 length-digits_before n before after small is = omega (arith, length-decimal_short n small, ap length is ∙ length-append (decimal n) before)
 
 -- the text of one point more
-pub texts_more : (points : List Point) (i : ℕ) (p : Point) → slice_get points i ≡ Some p → map shown_point (take i points) ++ (shown_point p ∷ []) ≡ map shown_point (take (i + 1) points)
-texts_more points i p at =
+pub texts_more : (points : List Point) (i : ℕ) (p : Point) {before after : List (List ℕ)} {text : List ℕ} → slice_get points i ≡ Some p → before ≡ map shown_point (take i points) → text ≡ shown_point p → after ≡ before ++ (text ∷ []) → after ≡ map shown_point (take (i + 1) points)
+texts_more points i p {before} {after} {text} at are text_is is =
     let within = slice_get_within points i p at in
-    let here = get_or_from_slice_get points i p p at in
-    sym (ap (map shown_point) (take_more points i p within) ∙ map-append shown_point (take i points) (get_or points i p ∷ []) ∙ ap (λ (q : Point). map shown_point (take i points) ++ (shown_point q ∷ [])) here)
+    let here = text_is ∙ ap shown_point (sym (get_or_from_slice_get points i p p at)) in
+    let more = ap (map shown_point) (take_more points i p within) ∙ map-append shown_point (take i points) (get_or points i p ∷ []) in
+    is ∙ ap (λ (ts : List (List ℕ)). ts ++ (text ∷ [])) are ∙ ap (λ (t : List ℕ). map shown_point (take i points) ++ (t ∷ [])) here ∙ sym more
 
 -- the three corners are places below the count
 pub record AreBelow (count : ℕ) (t : Corners) : Type 0 where
