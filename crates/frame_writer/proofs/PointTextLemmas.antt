@@ -5,7 +5,7 @@ use Rattle.std.specs.Option.{option_map}
 use Rattle.std.specs.List.{slice_get, list_all}
 use Rattle.std.proofs.lemmas.Bool.{and_parts, ltb-true}
 use Rattle.std.proofs.lemmas.Fmt.{length-decimal-le}
-use Rattle.std.proofs.lemmas.List.{take_more, map-append}
+use Rattle.std.proofs.lemmas.List.{take_more, length-map, map-append}
 use Rattle.std.proofs.lemmas.List.Elements.{All-get_or}
 use Rattle.std.proofs.lemmas.List.Sums.{AllPass-from_list_all}
 use Rattle.std.proofs.lemmas.Option.{slice_get-map, slice_get_within, get_or_from_slice_get}
@@ -29,20 +29,20 @@ pub length-digits_before : (n : ℕ) (before after : List ℕ) → n < 2 ^ 32 �
 length-digits_before n before after small is = omega (arith, length-decimal_short n small, ap length is ∙ length-append (decimal n) before)
 
 -- the text of one point more
-pub texts_more : (points : List Point) (i : ℕ) (p : Point) → slice_get points i ≡ Some p → map shown_point (take i points) ++ (shown_point p ∷ []) ≡ map shown_point (take (i + 1) points)
-texts_more points i p at =
+pub texts_more : (points : List Point) (i : ℕ) (p : Point) {before after : List (List ℕ)} {text : List ℕ} → slice_get points i ≡ Some p → before ≡ map shown_point (take i points) → text ≡ shown_point p → after ≡ before ++ (text ∷ []) → after ≡ map shown_point (take (i + 1) points)
+texts_more points i p {before} {after} {text} at are text_is is =
     let within = slice_get_within points i p at in
-    let here = get_or_from_slice_get points i p p at in
-    sym (ap (map shown_point) (take_more points i p within) ∙ map-append shown_point (take i points) (get_or points i p ∷ []) ∙ ap (λ (q : Point). map shown_point (take i points) ++ (shown_point q ∷ [])) here)
+    let here = text_is ∙ ap shown_point (sym (get_or_from_slice_get points i p p at)) in
+    let more = ap (map shown_point) (take_more points i p within) ∙ map-append shown_point (take i points) (get_or points i p ∷ []) in
+    is ∙ ap (λ (ts : List (List ℕ)). ts ++ (text ∷ [])) are ∙ ap (λ (t : List ℕ). map shown_point (take i points) ++ (t ∷ [])) here ∙ sym more
 
--- the three corners are places of points
+-- the three corners are places below the count
 pub record AreBelow (count : ℕ) (t : Corners) : Type 0 where
   pub a : t.a < count
   pub b : t.b < count
   pub c : t.c < count
 
--- a body's corners are places of its points
-pub corners_below : (version : ℕ) (body : BodyLists) (k : ℕ) (t : Corners) → IsTrue (is_body version body) → slice_get body.corners k ≡ Some t → AreBelow (length body.points) t
+corners_below : (version : ℕ) (body : BodyLists) (k : ℕ) (t : Corners) → IsTrue (is_body version body) → slice_get body.corners k ≡ Some t → AreBelow (length body.points) t
 unfolding is_body
 corners_below version body k t rules at =
     let n = length body.points in
@@ -54,6 +54,11 @@ corners_below version body k t rules at =
     let ab = and_parts (ltb t.a n && ltb t.b n) (ltb t.c n) placed.0 in
     let each = and_parts (ltb t.a n) (ltb t.b n) ab.0 in
     record { a = ltb-true t.a n each.0; b = ltb-true t.b n each.1; c = ltb-true t.c n ab.1 }
+
+-- each corner of a body has a text where each of its points has one
+pub corners_with_texts : (version : ℕ) (body : BodyLists) (texts : List (List ℕ)) (k : ℕ) (t : Corners) → IsTrue (is_body version body) → texts ≡ map shown_point body.points → slice_get body.corners k ≡ Some t → AreBelow (length texts) t
+corners_with_texts version body texts k t rules are at =
+    subst (λ (n : ℕ). AreBelow n t) (sym (ap length are ∙ length-map body.points shown_point)) (corners_below version body k t rules at)
 
 shown_some : (o : Option Point) (text : List ℕ) → Some text ≡ option_map shown_point o → text ≡ shown_point (unwrap_or o origin_point)
 shown_some None text e = cc e
