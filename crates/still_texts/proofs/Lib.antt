@@ -1,3 +1,5 @@
 pub mod ShownLemmas
 pub mod GivenLemmas
-pub mod FullLemmas
+pub mod RoundLemmas
+pub mod SideLemmas
+pub mod PickLemmas

@@ -1,45 +1,24 @@
-//! The frame of a round in which every try is granted.
+//! The frames of a view, and of one with half-spaces.
 
-ghost use Rattle.std.specs.Prelude.{◌≡◌, [], Ok, IfOk, IfErr, IfSome};
-ghost use Rattle.std.specs.List.{AllByRecursion};
+ghost use Rattle.std.specs.Prelude.{◌≡◌, Ok, IfOk, IfErr, IfSome};
 ghost use Rattle.file_model.specs.Lists.{FileLists};
 ghost use Rattle.file_model.specs.Reading.{file_in};
 ghost use Rattle.view_outside.specs.Files.{HasFile, file_bytes};
 ghost use Rattle.view_outside.specs.OnlyRead.{OnlyRead};
-ghost use Rattle.round_model.specs.declared.asks.Ask.TheVariants.{Done};
-ghost use Rattle.round_model.specs.Rounds.{IsWhole};
-ghost use Rattle.round_model.specs.Refiners.{pending_ask, round_state};
 ghost use Rattle.accepted_mesh.specs.MeshView.{IsMeshOf};
 ghost use Rattle.body_loads.specs.declared.refusals.LoadRefusal.TheVariants.{ReadFault};
-ghost use Rattle.round_model.specs.Views.{view_rules};
 ghost use Rattle.body_loads.specs.Loads.{IsBodyChange};
 ghost use Rattle.still_texts.specs.Shown.{IsStillText};
-ghost use Rattle.still_texts.specs.Full.{IsFullText};
+ghost use Rattle.still_texts.specs.Full.{IsFullText, IsCullText};
 ghost use Rattle.still_texts.specs.Texts.{GivesText};
 
+use crate::rounds::round_text;
 use accepted_mesh::Mesh;
-use body_loads::{LoadRefusal, load_bodies};
-use cut_refiner::{Ask, Refiner};
+use body_loads::LoadRefusal;
 use error_metric::View;
-use frame_writer::frame_text;
-use grid_vertex::NoMemory;
 use std::alloc::Global;
 use view_outside::Store;
-
-// A round of the view in which every try is granted.
-fn granted_round<'m>(alloc: Global, mesh: &'m Mesh, view: &View) -> Result<Refiner<'m>, NoMemory>
-    ensures rules { IfOk result (λ round. round.rules ≡ view_rules view.now mesh.now.lists) }
-    ensures done { IfOk result (λ round. pending_ask round ≡ Done) }
-    ensures whole { IfOk result (λ round. IsWhole (round_state round)) }
-    ensures granted { IfOk result
-        (λ round. AllByRecursion (λ answer. answer.epoch ≡ 1) round.tries) }
-{
-    let mut round = Refiner::begin(alloc, mesh, view, view.limit())?;
-    while let Ask::Lock(_) = round.ask() {
-        round.tell(1);
-    }
-    Ok(round)
-}
+use view_planes::Planes;
 
 /// The frame of a round of the view in which every try is granted, as the first of a session 0. Its bodies
 /// are read again, in the order of their patches.
@@ -60,18 +39,27 @@ pub fn full_text<S: Store>(
     ensures store { OnlyRead ReadFault (S.files store.old) (S.files store.new)
         (S.faults store.old) (S.faults store.new) result }
 {
-    let round = granted_round(alloc, mesh, view)?;
-    let bodies = load_bodies(alloc, mesh.index(), store, file, round.patches())?;
-    let mut text = Vec::new(alloc);
-    frame_text(
-        alloc,
-        0,
-        1,
-        round.cut(),
-        round.tries(),
-        round.patches(),
-        &bodies,
-        &mut text,
-    )?;
-    Ok(text)
+    round_text(alloc, mesh, view, view.limit(), store, file)
+}
+
+/// The frame of a round of the view with half-spaces in which every try is granted, as `full_text` gives that
+/// of a view.
+pub fn cull_text<S: Store>(
+    alloc: Global,
+    mesh: &Mesh,
+    planes: &Planes,
+    store: &mut S,
+    file: u32,
+) -> Result<Vec<u8>, LoadRefusal>
+    requires { HasFile (S.files store.old) file }
+    ensures told { IfSome (file_bytes (S.files store.old) file)
+        (λ bytes.
+        (lists : FileLists) → file_in bytes ≡ Ok lists → IsMeshOf lists mesh.now
+        → GivesText (IsCullText planes.now lists mesh.now.lists.root) result) }
+    ensures frame { IfOk result (λ text. IsStillText text.items) }
+    ensures changed { IfErr result IsBodyChange }
+    ensures store { OnlyRead ReadFault (S.files store.old) (S.files store.new)
+        (S.faults store.old) (S.faults store.new) result }
+{
+    round_text(alloc, mesh, planes, planes.view().limit(), store, file)
 }

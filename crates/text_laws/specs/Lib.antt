@@ -2,3 +2,4 @@ pub mod FrameTexts
 pub mod Meshes
 pub mod Rounds
 pub mod Texts
+pub mod Picks

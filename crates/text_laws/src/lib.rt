@@ -13,7 +13,12 @@ ghost use Rattle.text_model.specs.AcceptedText.{IsAcceptedText};
 ghost use Rattle.round_model.specs.Order.{Rules};
 ghost use Rattle.round_model.specs.Views.{ViewSeen};
 ghost use Rattle.still_texts.specs.Shown.{IsBaseText};
-ghost use Rattle.still_texts.specs.Full.{IsGranted, IsFullText};
+ghost use Rattle.view_planes.specs.HalfSpaces.{HalfSpaceSeen};
+ghost use Rattle.view_planes.specs.Planes.{PlanesSeen};
+ghost use Rattle.still_texts.specs.Full.{IsGranted, IsFullText, IsCullText};
+ghost use Rattle.still_texts.specs.Sides.{IsSidesText};
+ghost use Rattle.ray_pick.specs.Rays.{RaySeen};
+ghost use Rattle.still_texts.specs.Picks.{IsPickText};
 
 /// The line of an accepted file is one.
 pub fn an_accepted_file_has_one_line()
@@ -42,4 +47,23 @@ pub fn a_view_has_one_text()
         → mesh.index ≡ other.index → mesh.root ≡ other.root → mesh ≡ other }
     ensures texts { (view : ViewSeen) (file : FileLists) (root : ℕ) (text other : List ℕ)
         → IsFullText view file root text → IsFullText view file root other → text ≡ other }
+{}
+
+/// The text of the whole round of a view with half-spaces is one.
+pub fn a_culled_view_has_one_text()
+    ensures { (seen : PlanesSeen) (file : FileLists) (root : ℕ) (text other : List ℕ)
+        → IsCullText seen file root text → IsCullText seen file root other → text ≡ other }
+{}
+
+/// The text that tells on which side of a plane a file's nodes lie is one.
+pub fn the_sides_of_a_plane_have_one_text()
+    ensures { (plane : HalfSpaceSeen) (file : FileLists) (text other : List ℕ)
+        → IsSidesText plane file text → IsSidesText plane file other → text ≡ other }
+{}
+
+/// The line of what a ray meets first in a view's frame is one.
+pub fn a_pick_has_one_text()
+    ensures { (view : ViewSeen) (ray : RaySeen) (file : FileLists) (root : ℕ) (text other : List ℕ)
+        → IsPickText view ray file root text → IsPickText view ray file root other
+        → text ≡ other }
 {}

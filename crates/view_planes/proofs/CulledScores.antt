@@ -1,26 +1,11 @@
--- The nodes of a mesh keep their ranges, and what score each has.
-use Rattle.std.proofs.Common.{◌≡◌, ℕ, ◌≤◌, true, false, ◌&&◌, leb, List, map, Some, sym, ap, ◌∙◌}
-use Rattle.std.specs.Prelude.{IsTrue, slice_get, option_map}
-use Rattle.std.specs.List.{list_all}
-use Rattle.std.proofs.lemmas.Bool.{and_parts, leb-true, cond-true, cond-false}
+-- What score each node of a mesh has.
+use Rattle.std.proofs.Common.{◌≡◌, ℕ, true, false, List, map, Some, sym, ap, ◌∙◌}
+use Rattle.std.specs.Prelude.{slice_get, option_map}
+use Rattle.std.proofs.lemmas.Bool.{cond-true, cond-false}
 use Rattle.std.proofs.lemmas.Option.{slice_get-map}
-use Rattle.grid_vertex.specs.Points.{is_in_grid}
 use Rattle.file_model.specs.declared.fields.Node.{Node}
-use Rattle.file_model.specs.Rules.{is_node}
 use Rattle.round_model.specs.Scores.{score_of}
-use Rattle.mesh_graph.specs.NearGrid.{each_passes}
 use Rattle.view_planes.specs.Planes.{PlanesSeen, is_culled, culled_score}
-
-ball_parts : (nodes : List Node) → IsTrue (list_all is_node nodes) → (v : ℕ) (n : Node) → slice_get nodes v ≡ Some n → (is_in_grid n.ball.centre ≡ true) × (leb n.ball.radius 4194304 ≡ true)
-ball_parts nodes all v n here =
-    let node = each_passes is_node nodes v n all here in
-    and_parts (is_in_grid n.ball.centre) (leb n.ball.radius 4194304) (and_parts (is_in_grid n.ball.centre && leb n.ball.radius 4194304) (leb n.error 1048576) node).0
-
-pub centre_in_grid : (nodes : List Node) → IsTrue (list_all is_node nodes) → (v : ℕ) (n : Node) → slice_get nodes v ≡ Some n → IsTrue (is_in_grid n.ball.centre)
-centre_in_grid nodes all v n here = (ball_parts nodes all v n here).0
-
-pub radius_bound : (nodes : List Node) → IsTrue (list_all is_node nodes) → (v : ℕ) (n : Node) → slice_get nodes v ≡ Some n → n.ball.radius ≤ 4194304
-radius_bound nodes all v n here = leb-true n.ball.radius 4194304 (ball_parts nodes all v n here).1
 
 score_at : (seen : PlanesSeen) (nodes : List Node) (v : ℕ) (n : Node) → slice_get nodes v ≡ Some n → slice_get (map (culled_score seen) nodes) v ≡ Some (culled_score seen n)
 score_at seen nodes v n here = slice_get-map (culled_score seen) nodes v ∙ ap (option_map (culled_score seen)) here

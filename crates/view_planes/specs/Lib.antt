@@ -3,3 +3,4 @@ pub mod Behind
 pub mod Planes
 pub mod Culling
 pub mod CulledCuts
+pub mod NodeBalls

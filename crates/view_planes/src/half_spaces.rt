@@ -218,6 +218,7 @@ impl HalfSpace {
     {
         side_by(self.offset(ball.centre), self.reach_squared(ball.radius))
     }
+
     /// Tells whether the ball lies behind. Condition: its centre is in the grid, and its radius at most
     /// 4,194,304.
     #[tactic(auto, unfolding(crate::specs::HalfSpaces::is_behind))]

@@ -24,6 +24,9 @@ mod planes;
 pub use half_spaces::{FARTHEST, HalfSpace, STEEPEST, Side};
 pub use planes::Planes;
 
+#[cfg(test)]
+mod tests;
+
 /// Where a ball is behind a half-space, so is each ball that it contains; and what a culled ball contains is
 /// culled.
 pub fn a_ball_behind_holds_nothing_else()

@@ -50,6 +50,13 @@ impl Planes {
         true
     }
 
+    /// The view alone, without the half-spaces.
+    pub fn view(&self) -> &View
+        ensures { result.now ≡ self.now.view }
+    {
+        &self.view
+    }
+
     // Whether the ball is behind one of the half-spaces.
     fn is_culled(&self, ball: &Ball) -> bool
         requires centre { IsTrue (is_in_grid ball.now.centre) }

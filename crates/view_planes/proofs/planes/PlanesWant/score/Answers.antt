@@ -3,7 +3,8 @@ use Rattle.std.specs.Prelude.{slice_get}
 use Rattle.round_model.specs.Scores.{score_of}
 use Rattle.round_model.specs.Views.{ViewSeen}
 use Rattle.view_planes.specs.Planes.{PlanesSeen}
-use Rattle.view_planes.proofs.CulledScores.{centre_in_grid, radius_bound, score_of_culled, score_in_front}
+use Rattle.view_planes.specs.NodeBalls.{centre_in_grid, radius_bound}
+use Rattle.view_planes.proofs.CulledScores.{score_of_culled, score_in_front}
 use Rattle.view_planes.proofs.planes.PlanesWant.score.Goals as goal
 
 pub is_culled-requires-clause-centre : goal.is_culled-requires-clause-centre

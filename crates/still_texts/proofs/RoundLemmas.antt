@@ -1,4 +1,4 @@
--- The frame of a granted round is the view's.
+-- The frame of a granted round.
 use Rattle.std.proofs.Common.{◌≡◌, ◌<◌, ℕ, List, [], ◌∷◌, ◌++◌, length, Option, Some, None, Ok, refl, sym, ap, subst, ◌∙◌}
 use Rattle.std.specs.Prelude.{IfSome, slice_index_or}
 use Rattle.std.specs.List.{AllByRecursion}
@@ -23,11 +23,9 @@ use Rattle.body_loads.specs.Loads.{AreBodiesAt}
 use Rattle.body_loads.specs.PatchLists.{chosen_below}
 use Rattle.body_loads.specs.LoadLaws.{loads_triangles}
 use Rattle.accepted_mesh.specs.MeshView.{MeshSeen, IsMeshOf}
-use Rattle.round_model.specs.Views.{ViewSeen}
 use Rattle.round_model.specs.Views.{rules_of}
 use Rattle.text_model.specs.ShownCuts.{ShowsCut}
-use Rattle.round_model.specs.Views.{view_rules}
-use Rattle.still_texts.specs.Full.{IsGranted, IsFullText}
+use Rattle.still_texts.specs.Full.{want_rules, IsGranted, IsRoundFrame, IsRoundText}
 use Rattle.still_texts.proofs.ShownLemmas.{triangles_in-lists}
 
 -- ---- the round is done
@@ -85,37 +83,43 @@ round_shows bytes file mesh r bodies is of same through are =
       boundary = λ a b. ap (λ (ts : List Triangle). net ts a b) triangles ∙ border a b;
     }
 
-round_text : (bytes : List ℕ) (file : FileLists) (view : ViewSeen) (mesh : MeshSeen) (r : Refining) (bodies : List SeenBody) (text : List ℕ) → file_in bytes ≡ Ok file → IsMeshOf file mesh → r.rules ≡ view_rules view mesh.lists → IsThrough r → AreBodiesAt file.index bytes (cut_patches r) bodies
-    → IsFrameText (round_frame r bodies) text → IsFullText view file mesh.lists.root text
+-- the rules of a round are those by the scores, the threshold and the limit over the mesh
+abbrev pub IsBy : (MeshLists → List ℕ) → ℕ → ℕ → MeshSeen → Refining → Type 0
+IsBy scores least limit mesh r = r.rules ≡ want_rules scores least limit mesh.lists
+
+-- the frame of the bodies loaded for a granted round
+pub round_is_of : (scores : MeshLists → List ℕ) (least limit : ℕ) (bytes : List ℕ) (file : FileLists) (mesh : MeshSeen) (r : Refining) (bodies : List SeenBody) → file_in bytes ≡ Ok file → IsMeshOf file mesh → IsBy scores least limit mesh r → IsThrough r → AreBodiesAt file.index bytes (cut_patches r) bodies
+    → IsRoundFrame (want_rules scores least limit) file mesh.lists.root (round_frame r bodies)
 unfolding rules_of
-round_text bytes file view mesh r bodies text is of rules through are written = record {
+round_is_of scores least limit bytes file mesh r bodies is of rules through are = record {
   mesh = mesh.lists;
   is_mesh = of.facts;
   of_file = sym of.index;
   from_root = refl;
   epochs = epochs_of r.tries;
   granted = subst (λ (rs : Rules). IsGranted rs (epochs_of r.tries)) rules (record { whole = through.whole; granted = granted_epochs r.tries through.granted });
-  frame = round_frame r bodies;
   still = record { session = refl; number = refl };
   shows = subst (λ (rs : Rules). ShowsCut file mesh.lists.root (has (round_of rs (epochs_of r.tries)).set) (round_frame r bodies)) rules (round_shows bytes file mesh r bodies is of (ap (λ (rs : Rules). rs.mesh) rules) through are);
   tries = through.answers ∙ ap (λ (rs : Rules). (round_of rs (epochs_of r.tries)).tries) rules;
-  is = written;
 }
 
 -- where the file is told
-pub told_full : (told : Option (List ℕ)) (view : ViewSeen) (mesh : MeshSeen) (r : Refining) (bodies : List SeenBody) (text : List ℕ) → r.rules ≡ view_rules view mesh.lists → IsThrough r → IfSome told (λ (bytes : List ℕ). AreBodiesAt mesh.lists.index bytes (cut_patches r) bodies)
-    → IsFrameText (round_frame r bodies) text → IfSome told (λ (bytes : List ℕ). (file : FileLists) → file_in bytes ≡ Ok file → IsMeshOf file mesh → IsFullText view file mesh.lists.root text)
-told_full None view mesh r bodies text rules through are written = tt
-told_full (Some bytes) view mesh r bodies text rules through are written = λ file is of.
-    round_text bytes file view mesh r bodies text is of rules through (subst (λ (i : IndexLists). AreBodiesAt i bytes (cut_patches r) bodies) (sym of.index) are) written
+pub told_round : (scores : MeshLists → List ℕ) (least limit : ℕ) (told : Option (List ℕ)) (mesh : MeshSeen) (r : Refining) (bodies : List SeenBody) (text : List ℕ) → IsBy scores least limit mesh r → IsThrough r → IfSome told (λ (bytes : List ℕ). AreBodiesAt mesh.lists.index bytes (cut_patches r) bodies)
+    → IsFrameText (round_frame r bodies) text → IfSome told (λ (bytes : List ℕ). (file : FileLists) → file_in bytes ≡ Ok file → IsMeshOf file mesh → IsRoundText (want_rules scores least limit) file mesh.lists.root text)
+told_round scores least limit None mesh r bodies text rules through are written = tt
+told_round scores least limit (Some bytes) mesh r bodies text rules through are written = λ file is of. record {
+  frame = round_frame r bodies;
+  of_round = round_is_of scores least limit bytes file mesh r bodies is of rules through (subst (λ (i : IndexLists). AreBodiesAt i bytes (cut_patches r) bodies) (sym of.index) are);
+  is = written;
+}
 
 -- each number of the list is a patch of these fields
 abbrev ArePatchesOf : IndexLists → List ℕ → Type 0
 ArePatchesOf index patches = (k d : ℕ) → k < length patches → slice_index_or patches k d < length index.fields
 
 -- the patches of a round's frame are the mesh's
-pub round_patches : (view : ViewSeen) (mesh : MeshSeen) (r : Refining) (patches : List ℕ) → r.rules ≡ view_rules view mesh.lists → patches ≡ cut_patches r → (k d : ℕ) → k < length patches → slice_index_or patches k d < length mesh.lists.index.fields
+pub round_patches : (scores : MeshLists → List ℕ) (least limit : ℕ) (mesh : MeshSeen) (r : Refining) (patches : List ℕ) → IsBy scores least limit mesh r → patches ≡ cut_patches r → (k d : ℕ) → k < length patches → slice_index_or patches k d < length mesh.lists.index.fields
 unfolding cut_patches rules_of
-round_patches view mesh r patches rules are =
+round_patches scores least limit mesh r patches rules are =
     let below : ArePatchesOf r.rules.mesh.index (cut_patches r) = chosen_below (leads_out (has (round_state r).set)) r.rules.mesh.index.fields in
     subst (ArePatchesOf mesh.lists.index) (sym are) (subst (λ (index : IndexLists). ArePatchesOf index (cut_patches r)) (ap (λ (rs : Rules). rs.mesh.index) rules) below)

@@ -1,0 +1,92 @@
+//! Rays, and where one meets a triangle.
+
+ghost use Rattle.std.specs.Prelude.{◌≡◌, ◌≤◌, Bool, ◌&&◌, IsTrue, MatchOption, IfSome};
+ghost use Rattle.grid_vertex.specs.Points.{is_within, is_point_within, is_in_grid};
+ghost use Rattle.patch_body.specs.Seen.{IsInGrid};
+ghost use Rattle.ray_pick.specs.Rays.{is_nought, ray_of, IsHitAt, Misses, IsSmall};
+
+use grid_vertex::{Point, Triangle};
+use std::marker::Model;
+
+/// How far from 0 a coordinate of an origin is at most.
+pub const FARTHEST: u32 = 2_097_152;
+
+/// How far from 0 a coordinate of a direction is at most.
+pub const LONGEST: u32 = 1_024;
+
+/// A half-line from an origin on in a direction.
+#[derive(Clone, Copy, Debug, PartialEq, Eq)]
+pub struct Ray {
+    origin: Point,
+    direction: Point,
+}
+
+impl Model for Ray {
+    ghost use Rattle.std.specs.Prelude.{IsTrue};
+    ghost use Rattle.ray_pick.specs.Rays.{RaySeen, is_ray};
+
+    ghost Value = { RaySeen };
+
+    ghost view = { λ r. record { origin = r.origin; direction = r.direction } };
+
+    ghost invariant = { λ r. IsTrue (is_ray r.origin r.direction) };
+
+    ghost inverse = { λ r. record { origin = r.origin; direction = r.direction } };
+}
+
+// Whether each coordinate is in an origin's range.
+fn is_near(point: Point) -> bool
+    ensures { result ≡ is_point_within FARTHEST point }
+{
+    is_on_axis(FARTHEST, point.x) && is_on_axis(FARTHEST, point.y) && is_on_axis(FARTHEST, point.z)
+}
+
+// Whether each coordinate is in a direction's range.
+fn is_short(point: Point) -> bool
+    ensures { result ≡ is_point_within LONGEST point }
+{
+    is_on_axis(LONGEST, point.x) && is_on_axis(LONGEST, point.y) && is_on_axis(LONGEST, point.z)
+}
+
+// Whether the coordinate is in -limit to limit.
+fn is_on_axis(limit: u32, coordinate: i32) -> bool
+    ensures { result ≡ is_within limit coordinate }
+{
+    coordinate.unsigned_abs() <= limit
+}
+
+// Whether each coordinate is 0.
+fn is_nought(point: Point) -> bool
+    ensures { result ≡ is_nought point }
+{
+    point.x == 0 && point.y == 0 && point.z == 0
+}
+
+impl Ray {
+    /// The ray from a point on in a direction.
+    ///
+    /// None exactly where a number is out of its range or the direction is 0: the origin's coordinates are in
+    /// -2,097,152 to 2,097,152, the direction's in -1,024 to 1,024.
+    pub fn new(origin: Point, direction: Point) -> Option<Ray>
+        ensures { result ≡ ray_of origin direction }
+    {
+        if !is_near(origin) || !is_short(direction) {
+            return None;
+        }
+        if is_nought(direction) {
+            return None;
+        }
+        Some(Ray { origin, direction })
+    }
+}
+
+/// Where the ray meets the triangle: the numbers above and below of the fraction of its direction past its
+/// origin. None exactly where the triangle isn't hit. Condition: its corners are in the grid.
+pub fn hit_triangle(ray: &Ray, triangle: Triangle) -> Option<(i128, i128)>
+    requires { IsInGrid triangle }
+    ensures hit { MatchOption result (Misses ray.now triangle)
+        (λ at. IsHitAt ray.now triangle at.0 at.1) }
+    ensures small { IfSome result (λ at. IsSmall at.0 at.1) }
+{
+    None
+}
