@@ -23,7 +23,12 @@ module _ {X : Type 0} (f : X → List ℕ) (seen : PlanesSeen) where
   next (x1 ∷ x2 ∷ []) a b c d many is_a is_b is_c is_d = absurd (omega (arith, many))
   next (x1 ∷ x2 ∷ x3 ∷ []) a b c d many is_a is_b is_c is_d = absurd (omega (arith, many))
   next (x1 ∷ x2 ∷ x3 ∷ x4 ∷ xs) a b c d many is_a is_b is_c is_d =
-      rw (is_a, is_b, is_c, is_d) (ap (λ (ws : List X). with_all (with_one seen (half_space_in (f x1) (f x2) (f x3) (f x4))) (map f ws)) (sym (take-length xs)))
+      let same_a : a ≡ x1 = is_a in
+      let same_b : b ≡ x2 = is_b in
+      let same_c : c ≡ x3 = is_c in
+      let same_d : d ≡ x4 = is_d in
+      let fewer : length (x1 ∷ x2 ∷ x3 ∷ x4 ∷ xs) - 4 ≡ length xs = omega arith in
+      rw (same_a, same_b, same_c, same_d) (ap (λ (ws : List X). with_all (with_one seen (half_space_in (f x1) (f x2) (f x3) (f x4))) (map f ws)) (sym (ap (λ (n : ℕ). take n xs) fewer ∙ take-length xs)))
 
   -- where fewer than four are left, none may be
   pub no_next : (xs : List X) (is_empty : Bool) → length xs < 4 → is_empty ≡ (length xs == 0) → then_some is_empty seen ≡ with_all (Some seen) (map f xs)
