@@ -6,4 +6,4 @@ pub mod PlayWords
 pub mod RunFailures
 pub mod RunLemmas
 pub mod TakenLemmas
-pub mod WordLemmas
+pub mod SpeltLemmas

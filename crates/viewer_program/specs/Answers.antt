@@ -9,9 +9,11 @@ use Rattle.mesh_model.specs.declared.refusals.Refusal.TheVariants.{File, Dag}
 use Rattle.mesh_model.specs.Accepted.{IsAccepted, IsMeshFault}
 use Rattle.text_model.specs.AcceptedText.{IsAcceptedText, IsAcceptedLine}
 use Rattle.still_texts.specs.Shown.{IsBaseText, IsStillText}
-use Rattle.still_texts.specs.Full.{IsFullText}
+use Rattle.still_texts.specs.Full.{IsFullText, IsCullText}
+use Rattle.still_texts.specs.Sides.{IsSidesText, IsSidesLines}
+use Rattle.still_texts.specs.Picks.{IsPickText, IsPickLine}
 use Rattle.viewer_program.specs.declared.commands.Command.{Command}
-use Rattle.viewer_program.specs.declared.commands.Command.TheVariants.{Base, Check, Full, Convert, Cull, Sides}
+use Rattle.viewer_program.specs.declared.commands.Command.TheVariants.{Base, Check, Full, Convert, Cull, Sides, Pick}
 
 -- the text that a command writes of an accepted file with this root
 abbrev pub IsTextOf : Command → FileLists → ℕ → List ℕ → Type 0
@@ -19,8 +21,9 @@ IsTextOf Base file root text = IsBaseText file root text
 IsTextOf Check file root text = IsAcceptedText file root text
 IsTextOf (Full view) file root text = IsFullText view file root text
 IsTextOf (Convert version) file root text = IsPatchFile (with_version version file) text
-IsTextOf (Cull planes) file root text = ⊥
-IsTextOf (Sides plane) file root text = ⊥
+IsTextOf (Cull planes) file root text = IsCullText planes file root text
+IsTextOf (Sides plane) file root text = IsSidesText plane file text
+IsTextOf (Pick view ray) file root text = IsPickText view ray file root text
 
 -- a text of a file of these bytes, which are an accepted file
 pub record IsOfAccepted (is_text : FileLists → ℕ → List ℕ → Type 0) (bytes text : List ℕ) : Type 0 where
@@ -63,4 +66,5 @@ IsTextOfKind Check text = IsAcceptedLine text
 IsTextOfKind (Full view) text = IsStillText text
 IsTextOfKind (Convert version) text = IsFileText version text
 IsTextOfKind (Cull planes) text = IsStillText text
-IsTextOfKind (Sides plane) text = ⊥
+IsTextOfKind (Sides plane) text = IsSidesLines text
+IsTextOfKind (Pick view ray) text = IsPickLine text

@@ -2,9 +2,12 @@
 use Rattle.std.specs.Prelude.{ℕ, ◌==◌, List, [], ◌∷◌, length, Option, Some, None, option_map, codes, bytes_eq, IsTrue, if◌then◌else◌}
 use Rattle.file_model.specs.Rules.{is_version}
 use Rattle.round_model.specs.declared.limits.TheConstants.{EYE_REACH}
+use Rattle.round_model.specs.Views.{ViewSeen}
+use Rattle.ray_pick.specs.declared.rays.TheConstants.{FARTHEST, LONGEST}
+use Rattle.ray_pick.specs.Rays.{RaySeen}
 use Rattle.viewer_program.specs.declared.commands.Command.{Command}
-use Rattle.viewer_program.specs.declared.commands.Command.TheVariants.{Base, Check, Full, Convert, Cull, Sides}
-use Rattle.viewer_program.specs.Spelt.{version_in, point_in, view_in, half_space_in, planes_in}
+use Rattle.viewer_program.specs.declared.commands.Command.TheVariants.{Base, Check, Full, Convert, Cull, Sides, Pick}
+use Rattle.viewer_program.specs.Spelt.{version_in, point_in, view_in, half_space_in, planes_in, ray_from}
 
 -- ---- the command of the words behind a file's name
 
@@ -28,6 +31,15 @@ abbrev pub sides_in : List (List ℕ) → Option Command
 sides_in (a ∷ b ∷ c ∷ d ∷ []) = option_map Sides (half_space_in a b c d)
 sides_in words = None
 
+abbrev pub pick_from : Option ViewSeen → Option RaySeen → Option Command
+pick_from (Some view) (Some ray) = Some (Pick view ray)
+pick_from view ray = None
+
+abbrev pub pick_in : List (List ℕ) → Option Command
+pick_in (x ∷ y ∷ z ∷ focal ∷ threshold ∷ limit ∷ from_x ∷ from_y ∷ from_z ∷ to_x ∷ to_y ∷ to_z ∷ []) =
+    pick_from (view_in (point_in EYE_REACH x y z) focal threshold limit) (ray_from (point_in FARTHEST from_x from_y from_z) (point_in LONGEST to_x to_y to_z))
+pick_in words = None
+
 -- the command of a word, a file's name, which isn't empty, and the words behind it
 abbrev pub command_named : List ℕ → List ℕ → List (List ℕ) → Option Command
 command_named first name words =
@@ -38,6 +50,7 @@ command_named first name words =
     if bytes_eq first (codes "convert") then convert_in words else
     if bytes_eq first (codes "cull") then cull_in words else
     if bytes_eq first (codes "sides") then sides_in words else
+    if bytes_eq first (codes "pick") then pick_in words else
     None
 
 abbrev pub command_in : List (List ℕ) → Option Command

@@ -6,7 +6,7 @@ use Rattle.text_model.specs.declared.statuses.Status.TheVariants as statuses
 use Rattle.view_outside.specs.Streams.{appended}
 use Rattle.patch_file.specs.Written.{WritesPart}
 use Rattle.viewer_program.specs.declared.commands.Command.{Command}
-use Rattle.viewer_program.specs.declared.commands.Command.TheVariants.{Base, Check, Full, Convert, Cull, Sides}
+use Rattle.viewer_program.specs.declared.commands.Command.TheVariants.{Base, Check, Full, Convert, Cull, Sides, Pick}
 use Rattle.viewer_program.specs.Answers.{IsRefusalOf, IsWideIn}
 
 -- nothing was written, but where all of a text was, or a part
@@ -33,6 +33,7 @@ LoadsAgain (Full view) = Unit {0}
 LoadsAgain (Convert version) = Unit {0}
 LoadsAgain (Cull planes) = Unit {0}
 LoadsAgain (Sides plane) = ⊥
+LoadsAgain (Pick view ray) = Unit {0}
 
 -- the command converts to version 2, which not all files have
 abbrev pub AsksForVersion2 : Command → Type 0

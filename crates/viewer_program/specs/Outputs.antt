@@ -1,6 +1,7 @@
 -- What a command writes of a file that was checked, or why there is nothing.
 use Rattle.std.specs.Prelude.{ℕ, List, Result, Ok, Err}
 use Rattle.std.specs.Global.{Vec}
+use Rattle.grid_vertex.specs.declared.memory.NoMemory.{NoMemory}
 use Rattle.file_model.specs.Lists.{FileLists}
 use Rattle.file_model.specs.Spelling.{file_text}
 use Rattle.file_model.specs.Rules.{IsPatchFile}
@@ -27,6 +28,11 @@ IsWritable (File parts) = IsPatchFile parts (file_text parts)
 abbrev pub text_output : Result (Vec ℕ) LoadRefusal → Result Output Status
 text_output (Ok text) = Ok (Text text)
 text_output (Err refusal) = Err (load_status refusal)
+
+-- lines that were made are written, and only want of memory stops them
+abbrev pub lines_output : Result (Vec ℕ) NoMemory → Result Output Status
+lines_output (Ok text) = Ok (Text text)
+lines_output (Err no_memory) = Err statuses.Memory
 
 -- what a status says that stops a command after the check of this file: its least wide patch is one that the command can't
 -- write, and a failing store or want of memory says nothing. A file whose bytes are told doesn't change

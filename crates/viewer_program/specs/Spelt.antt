@@ -7,6 +7,7 @@ use Rattle.round_model.specs.Views.{ViewSeen, view_of}
 use Rattle.view_planes.specs.declared.half_spaces.TheConstants.{STEEPEST, FARTHEST}
 use Rattle.view_planes.specs.HalfSpaces.{HalfSpaceSeen, half_space_of}
 use Rattle.view_planes.specs.Planes.{PlanesSeen, has_room, with_plane}
+use Rattle.ray_pick.specs.Rays.{RaySeen, ray_of}
 
 -- the version that a word spells
 abbrev pub version_in : List ℕ → Option ℕ
@@ -57,3 +58,8 @@ abbrev pub planes_in : Option ViewSeen → List (List ℕ) → Option PlanesSeen
 planes_in None words = None
 planes_in (Some view) [] = None
 planes_in (Some view) words = with_all (Some (record { view = view; planes = [] })) words
+
+-- the ray from a point on in a direction, where both are there and it is one
+abbrev pub ray_from : Option Point → Option Point → Option RaySeen
+ray_from (Some origin) (Some direction) = ray_of origin direction
+ray_from origin direction = None

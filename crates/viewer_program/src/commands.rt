@@ -1,6 +1,7 @@
 //! The commands that the program's words name.
 
 use error_metric::View;
+use ray_pick::Ray;
 use view_planes::{HalfSpace, Planes};
 
 /// What the words ask for.
@@ -18,6 +19,8 @@ pub enum Command {
     Cull(Planes),
     /// On which side of a half-space each node lies.
     Sides(HalfSpace),
+    /// The triangle of a view's full frame that a ray meets first.
+    Pick(View, Ray),
 }
 
 mod reading;

@@ -10,7 +10,7 @@ ghost use Rattle.text_model.specs.declared.statuses.Status.TheVariants as status
 ghost use Rattle.viewer_program.specs.Commands.{IsKnown};
 ghost use Rattle.viewer_program.specs.Answers.{IsTextOf, IsOfAccepted, IsTextOfKind};
 ghost use Rattle.viewer_program.specs.Endings.{StopsAt, CanStop, IsChange};
-ghost use Rattle.viewer_program.specs.Outputs.{output_text, IsWritable, text_output, GivesOutput};
+ghost use Rattle.viewer_program.specs.Outputs.{output_text, IsWritable, text_output, lines_output, GivesOutput};
 
 use crate::commands::Command;
 use crate::converts::convert_output;
@@ -18,9 +18,10 @@ use crate::meshes::mesh_of;
 use crate::refusals::{status_of_check, status_of_load};
 use body_loads::LoadRefusal;
 use dag_check::Mesh;
+use grid_vertex::NoMemory;
 use patch_file::FileParts;
 use std::alloc::Global;
-use still_texts::{accepted_text, base_text, full_text};
+use still_texts::{accepted_text, base_text, cull_text, full_text, pick_text, sides_text};
 use text_model::Status;
 use view_outside::Store;
 
@@ -43,17 +44,13 @@ fn text_output(made: Result<Vec<u8>, LoadRefusal>) -> Result<Output, Status>
     }
 }
 
-// The accepted line.
-fn line_output(alloc: Global, mesh: &Mesh) -> Result<Output, Status>
-    ensures told { (lists : FileLists) → IsMeshOf lists mesh.now
-        → GivesOutput Command.Check lists mesh.now.lists.root result }
-    ensures kind { IfOk result (λ output. IsTextOfKind Command.Check (output_text output)) }
-    ensures writable { IfOk result IsWritable }
-    ensures stop { OnErr result (result ≡ Err statuses.Memory) }
+// Lines that were made, or that there was no memory for them.
+fn lines_output(made: Result<Vec<u8>, NoMemory>) -> Result<Output, Status>
+    ensures { result ≡ lines_output made }
 {
-    match accepted_text(alloc, mesh) {
+    match made {
         Ok(text) => Ok(Output::Text(text)),
-        Err(_) => Err(Status::Memory),
+        Err(NoMemory) => Err(Status::Memory),
     }
 }
 
@@ -80,10 +77,12 @@ fn output_of<S: Store>(
 {
     match command {
         Command::Base => text_output(base_text(alloc, mesh, store, file)),
-        Command::Check => line_output(alloc, mesh),
+        Command::Check => lines_output(accepted_text(alloc, mesh)),
         Command::Full(view) => text_output(full_text(alloc, mesh, view, store, file)),
         Command::Convert(version) => convert_output(alloc, *version, mesh, store, file),
-        Command::Cull(_) | Command::Sides(_) => Err(Status::Usage),
+        Command::Cull(planes) => text_output(cull_text(alloc, mesh, planes, store, file)),
+        Command::Sides(plane) => lines_output(sides_text(alloc, mesh, plane)),
+        Command::Pick(view, ray) => text_output(pick_text(alloc, mesh, view, ray, store, file)),
     }
 }
 

@@ -1,10 +1,12 @@
 //! Reading the words.
 
 ghost use Rattle.std.specs.Prelude.{◌≡◌, map, string_bytes, IfSome};
-ghost use Rattle.viewer_program.specs.Commands.{command_in, command_named, command_alone, convert_in, full_in, cull_in, sides_in, name_in, IsKnown};
+ghost use Rattle.viewer_program.specs.Commands.{command_in, command_named, command_alone, convert_in, full_in, cull_in, sides_in, pick_from, pick_in, name_in, IsKnown};
 
 use super::Command;
-use super::spelt::{read_half_space, read_planes, read_point, read_version, read_view};
+use super::spelt::{read_half_space, read_planes, read_point, read_ray, read_version, read_view};
+use error_metric::View;
+use ray_pick::{FARTHEST, LONGEST, Ray};
 use round_model::EYE_REACH;
 
 /// The command that the words name; none where they are no command. They don't include the
@@ -34,6 +36,7 @@ fn command_named(first: &str, name: &str, words: &[String]) -> Option<Command>
         "convert" => read_convert(words),
         "cull" => read_cull(words),
         "sides" => read_sides(words),
+        "pick" => read_pick(words),
         _ => None,
     }
 }
@@ -97,6 +100,33 @@ fn read_sides(words: &[String]) -> Option<Command>
         [a, b, c, d] => {
             let plane = read_half_space(a.as_str(), b.as_str(), c.as_str(), d.as_str())?;
             Some(Command::Sides(plane))
+        }
+        _ => None,
+    }
+}
+
+// The command, where both are there.
+fn pick_of(view: Option<View>, ray: Option<Ray>) -> Option<Command>
+    ensures value { result ≡ pick_from view ray }
+    ensures known { IfSome result IsKnown }
+{
+    let view = view?;
+    let ray = ray?;
+    Some(Command::Pick(view, ray))
+}
+
+// The view and the ray that the words spell.
+fn read_pick(words: &[String]) -> Option<Command>
+    ensures value { result ≡ pick_in (map string_bytes words.now) }
+    ensures known { IfSome result IsKnown }
+{
+    match words {
+        [x, y, z, focal, threshold, limit, from_x, from_y, from_z, to_x, to_y, to_z] => {
+            let eye = read_point(EYE_REACH, x.as_str(), y.as_str(), z.as_str());
+            let view = read_view(eye, focal.as_str(), threshold.as_str(), limit.as_str());
+            let origin = read_point(FARTHEST, from_x.as_str(), from_y.as_str(), from_z.as_str());
+            let direction = read_point(LONGEST, to_x.as_str(), to_y.as_str(), to_z.as_str());
+            pick_of(view, read_ray(origin, direction))
         }
         _ => None,
     }

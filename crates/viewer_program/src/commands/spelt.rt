@@ -1,12 +1,13 @@
-//! Reading numbers, points, views and half-spaces of words.
+//! Reading points, views, half-spaces and rays of words.
 
 ghost use Rattle.std.specs.Prelude.{◌≡◌, ◌<◌, ◌^◌, map, string_bytes, Some, option_map, IfSome, IsTrue};
 ghost use Rattle.file_model.specs.Rules.{is_version};
-ghost use Rattle.viewer_program.specs.Spelt.{version_in, point_in, view_in, half_space_in, with_all, planes_in};
+ghost use Rattle.viewer_program.specs.Spelt.{version_in, point_in, view_in, half_space_in, with_all, planes_in, ray_from};
 
 use error_metric::View;
 use grid_vertex::Point;
 use number_words::{read_number, read_signed, read_wide_signed};
+use ray_pick::Ray;
 use round_model::{GREATEST_FOCAL, GREATEST_THRESHOLD};
 use view_planes::{FARTHEST, HalfSpace, Planes, STEEPEST};
 
@@ -77,4 +78,13 @@ pub fn read_planes(view: Option<View>, words: &[String]) -> Option<Planes>
         return None;
     }
     add_half_spaces(Planes::new(view), words)
+}
+
+/// The ray from a point on in a direction.
+pub fn read_ray(origin: Option<Point>, direction: Option<Point>) -> Option<Ray>
+    ensures { result ≡ ray_from origin direction }
+{
+    let origin = origin?;
+    let direction = direction?;
+    Ray::new(origin, direction)
 }
