@@ -1,2 +1,5 @@
 pub mod TotalLaws
 pub mod GatherLaws
+pub mod EdgeLaws
+pub mod ViewLaws
+pub mod FindLaws
