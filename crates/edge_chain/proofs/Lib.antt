@@ -3,3 +3,4 @@ pub mod GatherLaws
 pub mod EdgeLaws
 pub mod ViewLaws
 pub mod FindLaws
+pub mod PlaceLaws
