@@ -1,26 +1,26 @@
 -- Laws of gathering.
-use Rattle.std.proofs.Common.{◌≡◌, ◌≢◌, ◌∙◌, sym, ap, subst, refl, ℕ, ◌+◌, ◌<◌, ◌≤◌, Bool, true, false, cond, List, [], ◌∷◌, ◌++◌, length, take, drop, get_or, ℤ, pos, ◌+ℤ◌, arith}
+use Rattle.std.proofs.Common.{◌≡◌, ◌≢◌, ◌∙◌, sym, ap, subst, refl, ℕ, suc, ◌+◌, ◌-◌, ◌<◌, ◌≤◌, Bool, true, false, cond, List, [], ◌∷◌, ◌++◌, length, take, drop, get_or, ℤ, pos, ◌+ℤ◌, arith}
 use Rattle.std.specs.Prelude.{unsigned_abs}
 use Rattle.std.specs.declared.cmp.Ordering.{Ordering}
 use Rattle.std.specs.declared.cmp.Ordering.TheVariants.{Less, Equal, Greater}
-use Rattle.std.specs.Ordering.{is_eq, is_lt, int_eq}
-use Rattle.std.specs.Cmp.{IsTotalOrder}
+use Rattle.std.specs.Ordering.{is_eq, is_lt, int_eq, int_cmp, ordering_then}
+use Rattle.std.specs.Cmp.{IsTotalOrder, on_total, then_total, int_cmp_total}
 use Rattle.std.specs.List.{AllByRecursion}
+use Rattle.std.specs.List.Sorted.{IsSorted, IsPermutation}
 use Rattle.std.specs.Map.{keys_of}
 use Rattle.std.specs.BTreeMap.{is_at}
 use Rattle.std.proofs.lemmas.Bool.Decides.{Decides-int_eq}
 use Rattle.std.proofs.lemmas.Int.{ints}
+use Rattle.std.proofs.lemmas.List.{append-nil, drop_more, drop-drop}
+use Rattle.std.proofs.lemmas.List.Elements.{recursion_from_All}
+use Rattle.std.proofs.lemmas.List.Sorted.{sorted_far, ranks_by}
 use Rattle.std.proofs.lemmas.Map.Keys.{sorted_head}
 use Rattle.std.proofs.lemmas.Map.Lookups.{CmpEqualImpliesEq}
 use Rattle.edge_chain.specs.Gaps.{IsTight, tight_tail, turned}
 use Rattle.edge_chain.specs.Totals.{weight, alone, part, total}
 use Rattle.edge_chain.specs.Gathers.{Rises, Meets, Gathers, Gathered}
 use Rattle.edge_chain.specs.Gathers.Meets.{Starts, Follows, Joins}
-use Rattle.edge_chain.proofs.TotalLaws.{weight-nil, weight-cons, weight-append, weight-one, abs_add, total-nil, total-cons, total-one, total-append, total-unless, same_key, tight-nil, tight-cons}
-
-append_none : {A : Type 0} (xs : List A) → xs ++ [] ≡ xs
-append_none [] = refl
-append_none (x ∷ xs) = ap (λ ys. x ∷ ys) (append_none xs)
+use Rattle.edge_chain.proofs.TotalLaws.{weight-nil, weight-cons, weight-append, weight-one, weight-permutation, abs_add, total-nil, total-cons, total-one, total-append, total-permutation, total-unless, same_key, tight-nil, tight-cons}
 
 weight_if : {K : Type 0} (e : K × ℤ) (t : Bool) → weight (cond t [] (e ∷ [])) ≤ unsigned_abs e.1
 weight_if {K} e true = omega (arith, weight-nil K)
@@ -80,7 +80,7 @@ module _ {K : Type 0} (R : K → K → Ordering) where
       (all_last (λ y. R f.0 y ≡ Less) fs e (sorted_head R f.0 (keys_of (fs ++ e ∷ [])) h.ascending), before_last fs e (tight_tail R f (fs ++ e ∷ []) h))
 
   tight_alone : (kept : List (K × ℤ)) (e : K × ℤ) → IsTight R kept → AllByRecursion (λ k. R k.0 e.0 ≡ Less) kept → (t : Bool) → int_eq e.1 (pos 0) ≡ t → IsTight R (kept ++ cond t [] (e ∷ []))
-  tight_alone kept e h before true t = subst (λ (es : List (K × ℤ)). IsTight R es) (sym (append_none kept)) h
+  tight_alone kept e h before true t = subst (λ (es : List (K × ℤ)). IsTight R es) (sym (append-nil kept)) h
   tight_alone kept e h before false t = tight_push kept e h before (λ z. absurd (let clash = (Decides-int_eq e.1 (pos 0)).1 z in cc))
 
   rises_head : (e : K × ℤ) (es : List (K × ℤ)) → Rises R (e ∷ es) → AllByRecursion (λ f. is_lt (R f.0 e.0) ≡ false) es
@@ -146,3 +146,66 @@ module _ {K : Type 0} (R : K → K → Ordering) where
         let same = exact last.0 e.0 tie in
         gathers_apart front rest whole (e.0, last.1 +ℤ e.1) (joins front rest whole last e h' same)
         (subst (λ (k : K). AllByRecursion (λ f. R f.0 k ≡ Less) front) same (before_last front last h'.tight))
+
+    -- ---- the loop
+
+    pub gathers_none : (sums : List (K × ℤ)) → Rises R sums → Gathers R [] sums sums
+    gathers_none sums h = record {
+      totals = λ q. omega (arith, ints, total-nil R q);
+      tight = tight-nil R;
+      rises = h;
+      behind = tt;
+      weights = omega (arith, weight-nil K);
+    }
+
+    pub gathers_step : (sums after whole : List (K × ℤ)) (kept at front next : ℕ) (e : K × ℤ) (both : ℤ) → at < length sums → get_or sums at e ≡ e → front ≤ at → Gathers R (take kept sums) (drop at sums) whole → Meets R (take kept sums) e (take front sums) both → take next after ≡ take front sums ++ alone (e.0, both) → drop (front + 1) after ≡ drop (front + 1) sums → Gathers R (take next after) (drop (at + 1) after) whole
+    gathers_step sums after whole kept at front next e both within is low h meets kept_is rest_is =
+        let left : drop at sums ≡ e ∷ drop (at + 1) sums = drop_more sums at e within ∙ ap (λ (x : K × ℤ). x ∷ drop (at + 1) sums) is in
+        let far : (front + 1) + (at - front) ≡ at + 1 = omega arith in
+        let same : drop (at + 1) after ≡ drop (at + 1) sums =
+            ap (λ n. drop n after) (sym far) ∙ sym (drop-drop (at - front) (front + 1) after) ∙ ap (λ (xs : List (K × ℤ)). drop (at - front) xs) rest_is
+            ∙ drop-drop (at - front) (front + 1) sums ∙ ap (λ n. drop n sums) far in
+        let h' = subst (λ (rest : List (K × ℤ)). Gathers R (take kept sums) rest whole) left h in
+        let more = gathers_more (take kept sums) (drop (at + 1) sums) whole (take front sums) e both h' meets in
+        subst (λ (rest : List (K × ℤ)). Gathers R (take next after) rest whole) (sym same)
+        (subst (λ (es : List (K × ℤ)). Gathers R es (drop (at + 1) sums) whole) (sym kept_is) more)
+
+    -- a kept list and the next entry weigh no more than the whole
+    pub gathers_small : (sums whole : List (K × ℤ)) (kept at : ℕ) (e : K × ℤ) → at < length sums → get_or sums at e ≡ e → Gathers R (take kept sums) (drop at sums) whole → weight (take kept sums) + unsigned_abs e.1 ≤ weight whole
+    gathers_small sums whole kept at e within is h =
+        let left : drop at sums ≡ e ∷ drop (at + 1) sums = drop_more sums at e within ∙ ap (λ (x : K × ℤ). x ∷ drop (at + 1) sums) is in
+        omega (arith, h.weights, ap (λ (es : List (K × ℤ)). weight es) left, weight-cons e (drop (at + 1) sums))
+
+    -- sorted sums that were gathered are gathered sums
+    pub gathered_from_sorted : (whole sorted kept : List (K × ℤ)) → IsPermutation whole sorted → Gathers R kept [] sorted → Gathered R whole kept
+    gathered_from_sorted whole sorted kept moved h = record {
+      totals = λ q. omega (arith, ints, h.totals q, total-nil R q, total-permutation R whole sorted q moved);
+      tight = h.tight;
+      weights = omega (arith, h.weights, weight-nil K, weight-permutation whole sorted moved);
+    }
+
+    -- ---- the order after a sort
+
+    abbrev pub entry_cmp : K × ℤ → K × ℤ → Ordering
+    entry_cmp e f = ordering_then (R e.0 f.0) (int_cmp e.1 f.1)
+
+    entry_cmp_total : IsTotalOrder entry_cmp
+    entry_cmp_total = then_total (on_total (λ (e : K × ℤ). e.0) o) (on_total (λ (e : K × ℤ). e.1) int_cmp_total)
+
+    key_late : (p q : Ordering) → is_lt (ordering_then p q) ≡ false → is_lt p ≡ false
+    key_late Less q h = absurd cc
+    key_late Equal q h = refl
+    key_late Greater q h = refl
+
+    rises_from_far : (es : List (K × ℤ)) → ((i j : ℕ) (d : K × ℤ) → i ≤ j → j < length es → is_lt (entry_cmp (get_or es j d) (get_or es i d)) ≡ false) → Rises R es
+    unfolding Rises
+    rises_from_far [] h = tt
+    rises_from_far (e ∷ es) h = (
+      recursion_from_All (λ (f : K × ℤ). is_lt (R f.0 e.0) ≡ false) es (λ k d within.
+          key_late (R (get_or es k d).0 e.0) (int_cmp (get_or es k d).1 e.1) (h 0 (suc k) d (omega arith) (omega arith))),
+      rises_from_far es (λ i j d below within. h (suc i) (suc j) d (omega arith) (omega arith)),
+    )
+
+    pub rises_from_sort : (es : List (K × ℤ)) → IsSorted entry_cmp es → Rises R es
+    rises_from_sort es h =
+        rises_from_far es (λ i j d below within. sorted_far (λ x y. is_lt (entry_cmp x y)) (ranks_by entry_cmp_total (λ (e : K × ℤ). e)) es h i j d below within)

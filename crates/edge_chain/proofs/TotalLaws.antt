@@ -181,7 +181,7 @@ module _ {K : Type 0} (R : K → K → Ordering) where
     all_behind p q [] h k = tt
     all_behind p q (x ∷ ks) h k = (o.trans p q x h k.0, all_behind p q ks h k.1)
 
-    tied_behind : (p q : K) (ks : List K) → R p q ≡ Equal → AllByRecursion (λ y. R q y ≡ Less) ks → AllByRecursion (λ y. R p y ≡ Less) ks
+    pub tied_behind : (p q : K) (ks : List K) → R p q ≡ Equal → AllByRecursion (λ y. R q y ≡ Less) ks → AllByRecursion (λ y. R p y ≡ Less) ks
     tied_behind p q [] h k = tt
     tied_behind p q (x ∷ ks) h k = (o.congr p q x h ∙ k.0, tied_behind p q ks h k.1)
 

@@ -9,10 +9,10 @@ ghost use Rattle.edge_chain.specs.Borders.{AreBorder, AddsEdges};
 ghost use Rattle.edge_chain.specs.Chains.{HoldSame, Adds, IsNetOf, IsFirstDifference, IsFirstNetDifference};
 
 use crate::counts::count_open;
-use crate::differences::{Difference, first_gap};
+use crate::differences::Difference;
 use crate::edges::BorderEdge;
 use crate::gathers::gather_sums;
-use crate::scans::scan_differences;
+use crate::scans::find_difference;
 use crate::sums::{Sum, push_edges};
 use grid_vertex::{NoMemory, Triangle};
 use std::alloc::Global;
@@ -128,11 +128,7 @@ impl EdgeChain {
         ensures nets { (triangles : List Triangle) → IsNetOf triangles self.now
             → AreOpen triangles (keys_of self.now.entries) }
     {
-        if self.gathered {
-            self.sums.len() as u64
-        } else {
-            count_open(&self.sums) as u64
-        }
+        count_open(&self.sums, self.gathered) as u64
     }
 
     /// Tells whether the sums are equal; the numbers of triangles don't count. It is right without
@@ -158,10 +154,6 @@ impl EdgeChain {
             (here there : List Triangle) → IsNetOf here self.now → IsNetOf there other.now
             → IsFirstNetDifference here there difference) }
     {
-        if self.gathered && other.gathered {
-            first_gap(&self.sums, &other.sums)
-        } else {
-            scan_differences(&self.sums, &other.sums)
-        }
+        find_difference(&self.sums, &other.sums, self.gathered && other.gathered)
     }
 }

@@ -1,7 +1,8 @@
 //! The number of edges whose sums don't cancel, in a list that needn't be gathered.
 
-ghost use Rattle.std.specs.Prelude.{◌≡◌, ◌+◌, ◌<◌, ◌≤◌, ◌^◌, length};
+ghost use Rattle.std.specs.Prelude.{◌≡◌, ◌+◌, ◌<◌, ◌≤◌, ◌^◌, true, length};
 ghost use Rattle.edge_chain.specs.Edges.{edge_cmp};
+ghost use Rattle.edge_chain.specs.Gaps.{IsTight};
 ghost use Rattle.edge_chain.specs.Totals.{weight, normal, some};
 
 use crate::scans::total_of;
@@ -20,8 +21,8 @@ fn recount(count: usize, before: i64, after: i64) -> usize
     }
 }
 
-/// The number of edges whose sums don't cancel, in quadratic time.
-pub fn count_open(sums: &[Sum]) -> usize
+// The number of edges whose sums don't cancel, in quadratic time.
+fn recount_all(sums: &[Sum]) -> usize
     requires { weight sums.now < 2 ^ 63 }
     ensures { result ≡ length (normal edge_cmp sums.now) }
 {
@@ -33,4 +34,14 @@ pub fn count_open(sums: &[Sum]) -> usize
         count = recount(count, before, after);
     }
     count
+}
+
+/// The number of edges whose sums don't cancel: how many sums there are where they are gathered,
+/// else in quadratic time.
+pub fn count_open(sums: &[Sum], gathered: bool) -> usize
+    requires small { weight sums.now < 2 ^ 63 }
+    requires tight { gathered ≡ true → IsTight edge_cmp sums.now }
+    ensures { result ≡ length (normal edge_cmp sums.now) }
+{
+    if gathered { sums.len() } else { recount_all(sums) }
 }

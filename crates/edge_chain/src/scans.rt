@@ -1,14 +1,15 @@
 //! Sums of lists that needn't be gathered.
 
-ghost use Rattle.std.specs.Prelude.{◌≡◌, ◌+◌, ◌<◌, ◌≤◌, ◌^◌, Bool, ◌+ℤ◌, None, FitsSigned, unsigned_abs};
+ghost use Rattle.std.specs.Prelude.{◌≡◌, ◌+◌, ◌<◌, ◌≤◌, ◌^◌, true, ◌+ℤ◌, None, FitsSigned};
 ghost use Rattle.std.specs.List.{fold};
 ghost use Rattle.edge_chain.specs.Edges.{edge_cmp};
+ghost use Rattle.edge_chain.specs.Gaps.{IsTight};
 ghost use Rattle.edge_chain.specs.Totals.{part, total, weight};
 ghost use Rattle.edge_chain.specs.Differences.{Finds};
 ghost use Rattle.edge_chain.specs.Scans.{is_late, better};
 ghost use mir.Syntax.{w64};
 
-use crate::differences::Difference;
+use crate::differences::{Difference, first_gap};
 use crate::edges::Edge;
 use crate::sums::Sum;
 
@@ -72,12 +73,27 @@ fn scan_edges(best: Option<Difference>, edges: &[Sum], here: &[Sum], there: &[Su
     best
 }
 
-/// The least edge whose sums differ, in quadratic time.
-pub fn scan_differences(here: &[Sum], there: &[Sum]) -> Option<Difference>
+// The least edge whose sums differ, in quadratic time.
+fn scan_differences(here: &[Sum], there: &[Sum]) -> Option<Difference>
     requires here { weight here.now < 2 ^ 63 }
     requires there { weight there.now < 2 ^ 63 }
     ensures { Finds here.now there.now result }
 {
     let best = scan_edges(None, here, here, there);
     scan_edges(best, there, here, there)
+}
+
+/// The least edge whose sums differ: in one pass where both lists are gathered, else in quadratic
+/// time.
+pub fn find_difference(here: &[Sum], there: &[Sum], gathered: bool) -> Option<Difference>
+    requires here { weight here.now < 2 ^ 63 }
+    requires there { weight there.now < 2 ^ 63 }
+    requires tight { gathered ≡ true → IsTight edge_cmp here.now × IsTight edge_cmp there.now }
+    ensures { Finds here.now there.now result }
+{
+    if gathered {
+        first_gap(here, there)
+    } else {
+        scan_differences(here, there)
+    }
 }

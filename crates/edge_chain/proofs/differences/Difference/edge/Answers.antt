@@ -1,2 +1,0 @@
-use Rattle.edge_chain.proofs.TotalLaws.{length-normal}
-use Rattle.edge_chain.proofs.GatherLaws.{gathers_more}
