@@ -13,12 +13,12 @@ use Rattle.std.proofs.lemmas.List.Sums.{sum_by-cons}
 use Rattle.std.proofs.lemmas.List.Sorted.{All-permutation, length_permutation}
 use Rattle.grid_vertex.specs.declared.points.Point.{Point}
 use Rattle.grid_vertex.specs.Triangles.{is_flat_triangle}
-use Rattle.file_model.specs.Lists.{Corners, BodyLists, origin_point, point_at_place, triangle_of, triangles_from, triangles_of}
+use Rattle.file_model.specs.Lists.{Corners, BodyLists, origin_point, point_at_place, triangle_of, triangles_from}
 use Rattle.file_model.specs.Rules.{is_triangle, are_corners, is_body, is_narrow}
 use Rattle.grid_vertex.specs.Points.{is_in_grid}
 use Rattle.mesh_model.specs.Nets.{one_if, is_edge, edge_times, times, net}
 use Rattle.edge_chain.specs.declared.edges.BorderEdge.{BorderEdge}
-use Rattle.edge_chain.specs.Borders.{edges_times, edges_net, AreBorder}
+use Rattle.edge_chain.specs.Borders.{edges_times, edges_net}
 use Rattle.body_edges.specs.Keys.{key_of, from_of, to_of, keys_of_corners, keys_in, IsKey, edge_between, keys_times, HaveSameNet}
 use Rattle.body_edges.specs.Borders.{IsBorderOf}
 use Rattle.body_edges.proofs.KeyLaws.{from_of_key, to_of_key}

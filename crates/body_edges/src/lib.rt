@@ -6,8 +6,8 @@
 mod adding;
 mod borders;
 mod keys;
-
-
+#[cfg(test)]
+mod tests;
 
 pub use adding::{add_border, add_triangles};
 pub use borders::Border;

@@ -1,5 +1,5 @@
 -- One edge more.
-use Rattle.std.proofs.Common.{◌≡◌, ◌∙◌, ◌++◌, ◌∷◌, [], List, ap, rules}
+use Rattle.std.proofs.Common.{◌∙◌, ◌++◌, ◌∷◌, [], List, ap}
 use Rattle.edge_chain.specs.declared.edges.BorderEdge.{BorderEdge}
 use Rattle.body_edges.proofs.BorderLaws.{edges_more}
 use Rattle.body_edges.proofs.borders.push_edges.Goals as goal

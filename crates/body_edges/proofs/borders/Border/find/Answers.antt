@@ -6,7 +6,7 @@ use Rattle.std.proofs.lemmas.Result.{on_ok_weaker}
 use Rattle.edge_chain.specs.declared.edges.BorderEdge.{BorderEdge}
 use Rattle.file_model.specs.Lists.{SeenBody}
 use Rattle.patch_body.specs.Seen.{IsSeenBody}
-use Rattle.body_edges.specs.Keys.{IsKey, keys_in, edge_between, HaveSameNet}
+use Rattle.body_edges.specs.Keys.{IsKey, keys_in, edge_between}
 use Rattle.body_edges.specs.Borders.{IsBorderOf}
 use Rattle.body_edges.proofs.DropLaws.{IsLeft}
 use Rattle.body_edges.proofs.BorderLaws.{AreLeftOf, triangles_are, are_keys, border_is}

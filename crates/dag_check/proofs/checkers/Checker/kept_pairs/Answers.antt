@@ -15,4 +15,4 @@ kept_pairs-requires c = summed_of c.self.inside.index (taken_both c.self.inside.
 pub returns : goal.returns
 returns c =
     subst (λ (s : CheckerSeen). (bodies : List BodyLists) → Follows s bodies → KeepsPairs s.index s.next bodies c.kept_pairs.result) c.self.view_is
-    (λ bodies h. ?)
+    (λ bodies h. rw (c.kept_pairs.ensures) (keeps c.self.inside.index c.self.inside.next bodies (all_sums_of c.self.inside.all_sums) c.self.invariant.all_sums h.all_sums))
