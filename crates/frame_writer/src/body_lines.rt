@@ -52,11 +52,7 @@ fn write_corners(
 }
 
 /// Appends the lines of the body's triangles, put together from the texts of its points.
-pub fn write_lines(
-    body: &Body,
-    texts: &[PointText],
-    out: &mut Vec<u8>,
-) -> Result<(), NoMemory>
+pub fn write_lines(body: &Body, texts: &[PointText], out: &mut Vec<u8>) -> Result<(), NoMemory>
     requires { texts.now ≡ map shown_point body.now.lists.points }
     ensures ok { OnOk result (Adds out.old.items out.new.items
         (flat_map triangle_line (triangles_of body.now.lists))) }
