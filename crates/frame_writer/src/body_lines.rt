@@ -62,7 +62,10 @@ pub fn write_lines(body: &Body, texts: &[PointText], out: &mut Vec<u8>) -> Resul
     let _size = body.size();
     for triangle in 0..body.triangle_count() {
         let [a, b, c] = body.corners(triangle);
-        write_corners(text_at(texts, a), text_at(texts, b), text_at(texts, c), out)?;
+        let first = text_at(texts, a);
+        let second = text_at(texts, b);
+        let third = text_at(texts, c);
+        write_corners(first, second, third, out)?;
     }
     Ok(())
 }
