@@ -5,12 +5,16 @@
 #![tactic(auto)]
 
 mod chains;
+mod counts;
 mod differences;
 mod edges;
+mod gathers;
+mod scans;
 mod sums;
 
 pub use chains::EdgeChain;
 pub use differences::Difference;
+pub use edges::BorderEdge;
 
 #[cfg(test)]
 mod tests;
