@@ -1,1 +1,5 @@
 pub mod ListLaws
+pub mod KeyLaws
+pub mod NetLaws
+pub mod DropLaws
+pub mod BorderLaws

@@ -1,1 +1,3 @@
 pub mod TriangleCounts
+pub mod Keys
+pub mod Borders

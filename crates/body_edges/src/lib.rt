@@ -1,30 +1,13 @@
-//! The edges of bodies: a body's triangles are added to a chain.
+//! The edges of bodies: a body's border is found and added to a chain.
 //!
 //! `docs/MODEL.md` says what a chain's sums are for.
 #![tactic(auto)]
 
-ghost use Rattle.std.specs.Prelude.{◌≡◌, ◌+◌, ◌*◌, ◌≤◌, List, ◌++◌, length, OnOk};
-ghost use Rattle.grid_vertex.specs.declared.triangles.Triangle.{Triangle};
-ghost use Rattle.file_model.specs.Lists.{triangles_of};
-ghost use Rattle.edge_chain.specs.Chains.{IsNetOf};
+mod adding;
+mod borders;
+mod keys;
+#[cfg(test)]
+mod tests;
 
-use edge_chain::EdgeChain;
-use grid_vertex::NoMemory;
-use patch_body::Body;
-
-/// Adds the edges of a body's triangles. On want of memory part of the triangles may have been added.
-/// Condition: at most 4294967295 * 65536 triangles were added before.
-pub fn add_triangles(chain: &mut EdgeChain, body: &Body) -> Result<(), NoMemory>
-    requires { chain.old.count ≤ 4294967295 * 65536 }
-    ensures count { OnOk result
-        (chain.new.count ≡ chain.old.count + length body.now.lists.corners) }
-    ensures few { OnOk result (chain.new.count ≤ chain.old.count + 4294967295) }
-    ensures nets { OnOk result
-        ((triangles : List Triangle) → IsNetOf triangles chain.old
-        → IsNetOf (triangles ++ triangles_of body.now.lists) chain.new) }
-{
-    for place in 0..body.triangle_count() {
-        chain.add(body.triangle(place))?;
-    }
-    Ok(())
-}
+pub use adding::{add_border, add_triangles};
+pub use borders::Border;

@@ -36,7 +36,6 @@ step_is side index taken f body before after at small takes h = record {
       (own_node side index.fields taken (node_on side f) f body takes.old_sums takes.empty_node_sums takes.difference at (eq-eqb (node_on side f) (node_on side f) refl) small takes.takes (h.are_node_sums (node_on side f) takes.old_sums takes.there))
       (λ v t apart is. other_node side index.fields taken v f t at (ne_eqb (node_on side f) v (λ e. apart (sym e))) is) h.are_node_sums);
   open_nodes = takes.open_nodes;
-  kept_pairs = takes.kept_pairs;
 }
 
 -- a node other than the one that changes is compared as before

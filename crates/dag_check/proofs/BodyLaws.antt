@@ -29,7 +29,6 @@ summed_of index taken all_sums rules low h = record {
   few_nodes = omega (arith, h.as_many, few_nodes index rules);
   sums = λ v t at s. sum_more (taken_on s taken) 65536 (chain_on s t) (low s) ((h.are_node_sums v t at).sums s);
   open_nodes = h.open_nodes;
-  kept_pairs = h.kept_pairs;
 }
 
 pub ready_of : (side : Side) (index : IndexLists) (taken : Taken) (f : PatchField) (all_sums : AllSumsSeen) → slice_get index.fields (taken_on side taken) ≡ Some f → AreAllSums index taken all_sums → IsReady (node_on side f) all_sums.node_sums

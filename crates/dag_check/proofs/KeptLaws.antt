@@ -17,7 +17,7 @@ use Rattle.dag_check.specs.Added.{first_triangles}
 use Rattle.dag_check.specs.Open.{AreKept, KeepsPairs}
 use Rattle.mesh_model.specs.Sides.{is_on}
 use Rattle.dag_check.specs.NodeSums.{taken_on, taken_both, chain_on, is_under_way, AreDropped}
-use Rattle.dag_check.specs.AllNodeSums.{AllSumsSeen, AreAllSums, AllSumsFollow}
+use Rattle.dag_check.specs.AllNodeSums.{AllSumsSeen, pairs_in_all, AreAllSums, AllSumsFollow}
 use Rattle.dag_check.proofs.OpenLaws.{open_same}
 
 -- how many pairs a node's sum on a side keeps
@@ -65,11 +65,11 @@ are_kept side index n bodies all_sums is follows = record {
       sym given.gives ∙ dropped_on side given.element ((is.are_node_sums v given.element given.there).dropped rests));
 }
 
-pub keeps : (index : IndexLists) (n : ℕ) (bodies : List BodyLists) (all_sums : AllSumsSeen) → AreAllSums index (taken_both n) all_sums → AllSumsFollow index (taken_both n) bodies all_sums → KeepsPairs index n bodies all_sums.kept_pairs
+pub keeps : (index : IndexLists) (n : ℕ) (bodies : List BodyLists) (all_sums : AllSumsSeen) → AreAllSums index (taken_both n) all_sums → AllSumsFollow index (taken_both n) bodies all_sums → KeepsPairs index n bodies (pairs_in_all all_sums.node_sums)
 keeps index n bodies all_sums is follows = record {
   incoming = map (kept_on Incoming) all_sums.node_sums;
   outgoing = map (kept_on Outgoing) all_sums.node_sums;
   in_are = are_kept Incoming index n bodies all_sums is follows;
   out_are = are_kept Outgoing index n bodies all_sums is follows;
-  total = omega (arith, is.kept_pairs, sum_by-both (kept_on Incoming) (kept_on Outgoing) all_sums.node_sums, sum-map (kept_on Incoming) all_sums.node_sums, sum-map (kept_on Outgoing) all_sums.node_sums);
+  total = omega (arith, sum_by-both (kept_on Incoming) (kept_on Outgoing) all_sums.node_sums, sum-map (kept_on Incoming) all_sums.node_sums, sum-map (kept_on Outgoing) all_sums.node_sums);
 }

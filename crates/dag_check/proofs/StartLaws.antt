@@ -13,7 +13,7 @@ use Rattle.dag_check.specs.declared.borders.BorderDifference.{BorderDifference}
 use Rattle.dag_check.specs.Added.{file_with}
 use Rattle.dag_check.specs.Borders.{HasBorderDifference}
 use Rattle.mesh_model.specs.Sides.{is_on}
-use Rattle.dag_check.specs.NodeSums.{taken_on, taken_both, to_come, inner_patches, empty_node_sums, chain_on, is_under_way, pairs_of, IsSum, AreNodeSums, NodeSumsFollow}
+use Rattle.dag_check.specs.NodeSums.{taken_on, taken_both, to_come, inner_patches, empty_node_sums, chain_on, is_under_way, IsSum, AreNodeSums, NodeSumsFollow}
 use Rattle.dag_check.specs.AllNodeSums.{AllSumsSeen, IsNew, AreAllSums, IsCompared, AllSumsFollow}
 use Rattle.dag_check.proofs.AddedLaws.{first_triangles-zero, along}
 use Rattle.dag_check.proofs.CountLaws.{inner_has}
@@ -40,7 +40,6 @@ new_is index all_sums h = record {
   as_many = h.as_many;
   are_node_sums = λ v t at. subst (λ (s : NodeSums). AreNodeSums index.fields (taken_both 0) v s) (sym (h.new_node_sums v t at)) (new_sums_are index.fields v);
   open_nodes = omega (arith, h.open_nodes, sum_by_few (λ (t : NodeSums). one_if (is_under_way t)) 0 all_sums.node_sums (λ v t at. omega (arith, ap (λ (s : NodeSums). one_if (is_under_way s)) (h.new_node_sums v t at), ap one_if (rests (inner_patches index.fields v)))));
-  kept_pairs = omega (arith, h.kept_pairs, sum_by_few pairs_of 0 all_sums.node_sums (λ v t at. omega (arith, ap pairs_of (h.new_node_sums v t at))));
 }
 
 new_holds : (fields : List PatchField) (bodies : List BodyLists) (v n : ℕ) → NodeSumsFollow fields (taken_both 0) bodies v (empty_node_sums n)

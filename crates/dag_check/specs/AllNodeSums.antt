@@ -13,15 +13,14 @@ use Rattle.dag_check.specs.Added.{file_with}
 use Rattle.dag_check.specs.Borders.{lesser_border, HasBorderDifference}
 use Rattle.dag_check.specs.NodeSums.{Taken, empty_node_sums, inner_patches, is_under_way, pairs_of, chain_on, Takes, IsSum, AreNodeSums, NodeSumsFollow}
 
--- what is kept of each node, the counts of open nodes and of pairs kept, and the least border difference
+-- what is kept of each node, the count of open nodes, and the least border difference
 pub record AllSumsSeen : Type 0 where
   pub node_sums : List NodeSums
   pub open_nodes : ℕ
-  pub kept_pairs : ℕ
   pub border_found : Option BorderDifference
 
 abbrev pub all_sums_of : AllNodeSums → AllSumsSeen
-all_sums_of all_sums = record { node_sums = all_sums.node_sums.items; open_nodes = all_sums.open_nodes; kept_pairs = all_sums.kept_pairs; border_found = all_sums.border_found }
+all_sums_of all_sums = record { node_sums = all_sums.node_sums.items; open_nodes = all_sums.open_nodes; border_found = all_sums.border_found }
 
 -- no body was added to any node's sums
 abbrev pub AreNew : List PatchField → List NodeSums → Type 0
@@ -32,7 +31,6 @@ pub record IsNew (index : IndexLists) (all_sums : AllSumsSeen) : Type 0 where
   pub as_many : length all_sums.node_sums ≡ length index.nodes
   pub new_node_sums : AreNew index.fields all_sums.node_sums
   pub open_nodes : all_sums.open_nodes ≡ 0
-  pub kept_pairs : all_sums.kept_pairs ≡ 0
   pub border_found : all_sums.border_found ≡ None
 
 -- how many nodes are under way
@@ -43,12 +41,11 @@ under_way node_sums = sum_by (λ t. one_if (is_under_way t)) node_sums
 abbrev pub pairs_in_all : List NodeSums → ℕ
 pairs_in_all node_sums = sum_by pairs_of node_sums
 
--- the counts are those of the nodes' sums, and no sum is too large to count
+-- the count is that of the nodes' sums, and no sum is too large to count
 pub record IsSummed (all_sums : AllSumsSeen) : Type 0 where
   pub few_nodes : length all_sums.node_sums ≤ 65536
   pub sums : (v : ℕ) (t : NodeSums) → slice_get all_sums.node_sums v ≡ Some t → (side : Side) → IsSum 65536 (chain_on side t)
   pub open_nodes : all_sums.open_nodes ≡ under_way all_sums.node_sums
-  pub kept_pairs : all_sums.kept_pairs ≡ pairs_in_all all_sums.node_sums
 
 -- a body of the node is still to come if it is inner
 abbrev pub IsReady : ℕ → List NodeSums → Type 0
@@ -63,7 +60,6 @@ pub record TakesAt (side : Side) (node : ℕ) (body : BodyLists) (before after :
   pub takes : Takes side body old_sums empty_node_sums difference
   pub node_sums : after.node_sums ≡ slice_set before.node_sums node empty_node_sums
   pub open_nodes : after.open_nodes ≡ under_way after.node_sums
-  pub kept_pairs : after.kept_pairs ≡ pairs_in_all after.node_sums
   pub border_found : after.border_found ≡ lesser_border before.border_found node difference
 
 -- what is kept of an index's nodes, once so many bodies were added
@@ -71,7 +67,6 @@ pub record AreAllSums (index : IndexLists) (taken : Taken) (all_sums : AllSumsSe
   pub as_many : length all_sums.node_sums ≡ length index.nodes
   pub are_node_sums : (v : ℕ) (t : NodeSums) → slice_get all_sums.node_sums v ≡ Some t → AreNodeSums index.fields taken v t
   pub open_nodes : all_sums.open_nodes ≡ under_way all_sums.node_sums
-  pub kept_pairs : all_sums.kept_pairs ≡ pairs_in_all all_sums.node_sums
 
 -- no body of the node is still to come, so that its sums were compared if it is inner
 pub record IsCompared (node_sums : List NodeSums) (v : ℕ) : Type 0 where

@@ -1,12 +1,14 @@
 //! What is kept of all nodes.
 
 ghost use Rattle.std.specs.Prelude.{◌≡◌, ◌<◌, ◌≤◌, length, IfOk, OnOk};
+ghost use Rattle.body_edges.specs.Borders.{IsBorderOf};
 ghost use Rattle.mesh_graph.specs.Graphs.{IsGraphOf};
-ghost use Rattle.dag_check.specs.AllNodeSums.{all_sums_of, IsNew, IsSummed, IsReady, TakesAt};
+ghost use Rattle.dag_check.specs.AllNodeSums.{all_sums_of, pairs_in_all, IsNew, IsSummed, IsReady, TakesAt};
 
 use crate::borders::{BorderDifference, least_border};
 use crate::inner::new_node_sums;
 use crate::node_sums::NodeSums;
+use body_edges::Border;
 use grid_vertex::NoMemory;
 use mesh_graph::MeshGraph;
 use mesh_model::Side;
@@ -18,7 +20,6 @@ use std::alloc::Global;
 pub struct AllNodeSums {
     pub node_sums: Vec<NodeSums>,
     pub open_nodes: u32,
-    pub kept_pairs: u64,
     pub border_found: Option<BorderDifference>,
 }
 
@@ -29,25 +30,35 @@ impl AllNodeSums {
         alloc: Global,
         side: Side,
         node: u32,
+        border: &Border,
         body: &Body,
     ) -> Result<(), NoMemory>
+        requires border { IsBorderOf border.now body.now.lists }
         requires node { node < length self.old.node_sums.items }
         requires sums { IsSummed (all_sums_of self.old) }
         requires left { IsReady node self.old.node_sums.items }
         ensures { OnOk result
             (TakesAt side node body.now.lists (all_sums_of self.old) (all_sums_of self.new)) }
     {
-        let _patch = body.patch();
         let sums_at = &mut self.node_sums[node as usize];
         let open = sums_at.open_nodes();
-        let kept = sums_at.kept_pairs();
-        let difference = sums_at.take(alloc, side, body)?;
+        let difference = sums_at.take(alloc, side, border, body)?;
         let open_after = sums_at.open_nodes();
-        let kept_after = sums_at.kept_pairs();
         self.open_nodes = self.open_nodes - open + open_after;
-        self.kept_pairs = self.kept_pairs - kept + kept_after;
         self.border_found = least_border(self.border_found, node, difference);
         Ok(())
+    }
+
+    /// How many pairs the nodes' sums keep. It takes time that grows with the square of a sum's pairs.
+    pub fn kept_pairs(&self) -> u64
+        requires { IsSummed (all_sums_of self.now) }
+        ensures { result ≡ pairs_in_all self.now.node_sums.items }
+    {
+        let mut kept = 0;
+        for node_sums in &self.node_sums {
+            kept += node_sums.kept_pairs();
+        }
+        kept
     }
 }
 
@@ -64,7 +75,6 @@ pub fn empty_all_sums(
     Ok(AllNodeSums {
         node_sums,
         open_nodes: 0,
-        kept_pairs: 0,
         border_found: None,
     })
 }

@@ -4,6 +4,7 @@ use crate::adding::add_to_base;
 use crate::all_node_sums::{AllNodeSums, empty_all_sums};
 use crate::borders::border;
 use accepted_mesh::Mesh;
+use body_edges::Border;
 use edge_chain::EdgeChain;
 use grid_vertex::NoMemory;
 use mesh_graph::MeshGraph;
@@ -22,6 +23,7 @@ pub struct Checker {
     next: u32,
     base: EdgeChain,
     all_sums: AllNodeSums,
+    border: Border,
 }
 
 impl Model for Checker {
@@ -77,6 +79,7 @@ impl Checker {
             next: 0,
             base: EdgeChain::new(alloc),
             all_sums,
+            border: Border::new(alloc),
         })
     }
 
@@ -97,12 +100,14 @@ impl Checker {
             next,
             mut base,
             mut all_sums,
+            mut border,
         } = self;
         let field = index.patch(next);
         let _patch = body.patch();
-        add_to_base(&mut base, graph.verdict(), field.tail, body)?;
-        all_sums.take(alloc, Side::Incoming, field.head, body)?;
-        all_sums.take(alloc, Side::Outgoing, field.tail, body)?;
+        border.find(body)?;
+        add_to_base(&mut base, graph.verdict(), field.tail, &border, body)?;
+        all_sums.take(alloc, Side::Incoming, field.head, &border, body)?;
+        all_sums.take(alloc, Side::Outgoing, field.tail, &border, body)?;
         Ok(Checker {
             alloc,
             index,
@@ -110,6 +115,7 @@ impl Checker {
             next: next + 1,
             base,
             all_sums,
+            border,
         })
     }
 
@@ -136,12 +142,13 @@ impl Checker {
     }
 
     /// How many pairs of points the checker keeps: for each open node those whose edges don't cancel in
-    /// the added bodies of the patches that lead to it, and of those that lead from it.
+    /// the added bodies of the patches that lead to it, and of those that lead from it. It is counted
+    /// anew, in time that grows with the square of a node's pairs.
     pub fn kept_pairs(&self) -> u64
         ensures { (bodies : List BodyLists) → Follows self.now bodies
             → KeepsPairs self.now.index self.now.next bodies result }
     {
-        self.all_sums.kept_pairs
+        self.all_sums.kept_pairs()
     }
 
     /// The mesh, or the first fault. It takes no memory. Condition: all bodies were added.
@@ -163,11 +170,13 @@ impl Checker {
             index,
             graph,
             next: _,
-            base,
+            mut base,
             all_sums,
+            border: _,
         } = self;
         let root = graph.verdict()?;
         border(all_sums.border_found)?;
+        // WAIT base.gather();
         Ok(Mesh::with(index, graph, root, base.open_edges()))
     }
 }

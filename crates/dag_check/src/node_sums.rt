@@ -3,9 +3,10 @@
 ghost use Rattle.std.specs.Prelude.{◌≡◌, ◌*◌, ◌^◌, ◌<◌, ◌≤◌, length, IfOk, OnOk};
 ghost use Rattle.file_model.specs.declared.limits.TheConstants.{MOST_IN_PATCH, MOST_PATCHES};
 ghost use Rattle.mesh_model.specs.Nets.{one_if};
+ghost use Rattle.body_edges.specs.Borders.{IsBorderOf};
 ghost use Rattle.dag_check.specs.NodeSums.{empty_node_sums, is_under_way, pairs_of, chain_on, IsGrown, settled, Compares, Takes};
 
-use body_edges::add_triangles;
+use body_edges::{Border, add_border};
 use edge_chain::{Difference, EdgeChain};
 use grid_vertex::NoMemory;
 use mesh_model::Side;
@@ -44,7 +45,7 @@ impl NodeSums {
         u32::from(0 < self.left && self.left < self.total)
     }
 
-    /// How many pairs the two sums keep.
+    /// How many pairs the two sums keep. It takes time that grows with the square of their number.
     pub fn kept_pairs(&self) -> u64
         requires { pairs_of self.now < 2 ^ 64 }
         ensures { result ≡ pairs_of self.now }
@@ -58,8 +59,10 @@ impl NodeSums {
         &mut self,
         alloc: Global,
         side: Side,
+        border: &Border,
         body: &Body,
     ) -> Result<Option<Difference>, NoMemory>
+        requires border { IsBorderOf border.now body.now.lists }
         requires room { (chain_on side self.old).count ≤ MOST_IN_PATCH * MOST_PATCHES }
         requires left { 0 < self.old.total → 0 < self.old.left }
         ensures { IfOk result (Takes side body.now.lists self.old self.new) }
@@ -67,7 +70,7 @@ impl NodeSums {
         if self.total == 0 {
             return Ok(None);
         }
-        self.grow(side, body)?;
+        self.grow(side, border, body)?;
         if self.left > 0 {
             return Ok(None);
         }
@@ -75,15 +78,16 @@ impl NodeSums {
     }
 
     // Adds a body to the sum on one side.
-    fn grow(&mut self, side: Side, body: &Body) -> Result<(), NoMemory>
+    fn grow(&mut self, side: Side, border: &Border, body: &Body) -> Result<(), NoMemory>
+        requires border { IsBorderOf border.now body.now.lists }
         requires room { (chain_on side self.old).count ≤ MOST_IN_PATCH * MOST_PATCHES }
         requires left { 0 < self.old.left }
         ensures { OnOk result (IsGrown side body.now.lists self.old self.new) }
     {
         self.left -= 1;
         match side {
-            Side::Incoming => add_triangles(&mut self.incoming, body),
-            Side::Outgoing => add_triangles(&mut self.outgoing, body),
+            Side::Incoming => add_border(&mut self.incoming, border, body),
+            Side::Outgoing => add_border(&mut self.outgoing, border, body),
         }
     }
 
@@ -92,6 +96,8 @@ impl NodeSums {
         ensures dropped { self.new ≡ settled self.old }
         ensures compared { Compares self.old result }
     {
+        // WAIT self.incoming.gather();
+        // WAIT self.outgoing.gather();
         let difference = self.incoming.first_difference(&self.outgoing);
         self.incoming = EdgeChain::new(alloc);
         self.outgoing = EdgeChain::new(alloc);

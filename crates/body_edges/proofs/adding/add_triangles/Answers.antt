@@ -6,7 +6,7 @@ use Rattle.file_model.specs.Lists.{triangles_of}
 use Rattle.edge_chain.specs.Chains.{IsNetOf}
 use Rattle.body_edges.specs.TriangleCounts.{length-triangles_from}
 use Rattle.body_edges.proofs.ListLaws.{append-take_one}
-use Rattle.body_edges.proofs.add_triangles.Goals as goal
+use Rattle.body_edges.proofs.adding.add_triangles.Goals as goal
 
 pub loop-place-preserved : goal.loop-place-preserved
 loop-place-preserved c = record {

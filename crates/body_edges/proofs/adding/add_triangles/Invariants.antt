@@ -3,7 +3,7 @@ use Rattle.std.proofs.Common.{◌≡◌, ◌+◌, List, ◌++◌, take}
 use Rattle.grid_vertex.specs.declared.triangles.Triangle.{Triangle}
 use Rattle.file_model.specs.Lists.{triangles_of}
 use Rattle.edge_chain.specs.Chains.{IsNetOf}
-use Rattle.body_edges.proofs.add_triangles.Given as goal
+use Rattle.body_edges.proofs.adding.add_triangles.Given as goal
 
 abbrev pub invariant-loop-place : goal.invariant-loop-place
 invariant-loop-place l = record {

@@ -1,0 +1,160 @@
+-- The keys of a body's triangles have the triangles' net, and so has what is left of them.
+use Rattle.std.proofs.Common.{◌≡◌, ◌∙◌, ℕ, ◌+◌, ◌*◌, ◌<◌, ◌≤◌, ◌&&◌, true, not, List, [], ◌∷◌, ◌++◌, length, map, take, get_or, ltb, refl, sym, ap, subst, arith, length-append}
+use Rattle.std.specs.Prelude.{All, Option, Some, slice_get, unwrap_or}
+use Rattle.std.specs.List.{list_all}
+use Rattle.std.specs.List.Sorted.{IsPermutation}
+use Rattle.std.proofs.lemmas.Bool.{and_parts, ltb-true}
+use Rattle.std.proofs.lemmas.Int.{ints}
+use Rattle.std.proofs.lemmas.List.{length-map, append-nil}
+use Rattle.std.proofs.lemmas.List.Concat.{flat_map-cons}
+use Rattle.std.proofs.lemmas.Grind.{flat_map-append}
+use Rattle.std.proofs.lemmas.List.Elements.{All-nil, All-cons}
+use Rattle.std.proofs.lemmas.List.Sums.{sum_by-cons}
+use Rattle.std.proofs.lemmas.List.Sorted.{All-permutation, length_permutation}
+use Rattle.grid_vertex.specs.declared.points.Point.{Point}
+use Rattle.grid_vertex.specs.Triangles.{is_flat_triangle}
+use Rattle.file_model.specs.Lists.{Corners, BodyLists, origin_point, point_at_place, triangle_of, triangles_from}
+use Rattle.file_model.specs.Rules.{is_triangle, are_corners, is_body, is_narrow}
+use Rattle.grid_vertex.specs.Points.{is_in_grid}
+use Rattle.mesh_model.specs.Nets.{one_if, is_edge, edge_times, times, net}
+use Rattle.edge_chain.specs.declared.edges.BorderEdge.{BorderEdge}
+use Rattle.edge_chain.specs.Borders.{edges_times, edges_net}
+use Rattle.body_edges.specs.Keys.{key_of, from_of, to_of, keys_of_corners, keys_in, IsKey, edge_between, keys_times, HaveSameNet}
+use Rattle.body_edges.specs.Borders.{IsBorderOf}
+use Rattle.body_edges.proofs.KeyLaws.{from_of_key, to_of_key}
+use Rattle.body_edges.proofs.NetLaws.{key_times, keys_times-append, keys_times-cons, keys_times-nil, same_net_permuted, same_net_trans}
+use Rattle.body_edges.proofs.DropLaws.{IsLeft}
+use Rattle.body_edges.proofs.ListLaws.{append-take_one, map-take_one}
+
+-- the corners are places of so many points
+record HasCorners (points : ℕ) (t : Corners) : Type 0 where
+  a : t.a < points
+  b : t.b < points
+  c : t.c < points
+
+corners_there : (points : List Point) (t : Corners) → is_triangle points t ≡ true → HasCorners (length points) t
+corners_there points t h =
+    let there = and_parts (are_corners (length points) t) (not (is_flat_triangle (triangle_of points t))) h in
+    let two = and_parts (ltb t.a (length points) && ltb t.b (length points)) (ltb t.c (length points)) there.0 in
+    let one = and_parts (ltb t.a (length points)) (ltb t.b (length points)) two.0 in
+    record { a = ltb-true t.a (length points) one.0; b = ltb-true t.b (length points) one.1; c = ltb-true t.c (length points) two.1 }
+
+is_key : (points from to : ℕ) → points ≤ 65535 → from < points → to < points → IsKey points (key_of from to)
+is_key points from to few h k = record {
+  from = subst (λ (n : ℕ). n < points) (sym (from_of_key from to (omega arith) (omega arith))) h;
+  to = subst (λ (n : ℕ). n < points) (sym (to_of_key from to (omega arith) (omega arith))) k;
+}
+
+-- a key's edge stands where its two places' points do
+key_times_is : (points : List Point) (a b : Point) (from to : ℕ) → from < 65536 → to < 65536 → key_times points a b (key_of from to) ≡ one_if (is_edge a b (point_at_place points from) (point_at_place points to))
+unfolding edge_between
+key_times_is points a b from to h k =
+    ap (λ (n : ℕ). one_if (is_edge a b (point_at_place points n) (point_at_place points (to_of (key_of from to))))) (from_of_key from to h k)
+    ∙ ap (λ (n : ℕ). one_if (is_edge a b (point_at_place points from) (point_at_place points n))) (to_of_key from to h k)
+
+triangle_times : (points : List Point) (t : Corners) (a b : Point) → length points ≤ 65535 → HasCorners (length points) t → keys_times points (keys_of_corners t) a b ≡ edge_times a b (triangle_of points t)
+unfolding keys_of_corners edge_times triangle_of
+triangle_times points t a b few h =
+    omega (
+      arith,
+      keys_times-cons points (key_of t.a t.b) (key_of t.b t.c ∷ key_of t.c t.a ∷ []) a b,
+      keys_times-cons points (key_of t.b t.c) (key_of t.c t.a ∷ []) a b,
+      keys_times-cons points (key_of t.c t.a) [] a b,
+      keys_times-nil points a b,
+      key_times_is points a b t.a t.b (omega (arith, h.a)) (omega (arith, h.b)),
+      key_times_is points a b t.b t.c (omega (arith, h.b)) (omega (arith, h.c)),
+      key_times_is points a b t.c t.a (omega (arith, h.c)) (omega (arith, h.a)),
+    )
+
+all_times : (points : List Point) (corners : List Corners) (a b : Point) → length points ≤ 65535 → list_all (is_triangle points) corners ≡ true → keys_times points (keys_in corners) a b ≡ times (triangles_from points corners) a b
+unfolding times triangles_from
+all_times points [] a b few h = keys_times-nil points a b
+all_times points (t ∷ ts) a b few h =
+    let parts = and_parts (is_triangle points t) (list_all (is_triangle points) ts) h in
+    ap (λ (keys : List ℕ). keys_times points keys a b) (flat_map-cons keys_of_corners t ts)
+    ∙ omega (
+      arith,
+      keys_times-append points (keys_of_corners t) (keys_in ts) a b,
+      triangle_times points t a b few (corners_there points t parts.0),
+      all_times points ts a b few parts.1,
+      sum_by-cons (edge_times a b) (triangle_of points t) (triangles_from points ts),
+    )
+
+all_keys : (points : List Point) (corners : List Corners) → length points ≤ 65535 → list_all (is_triangle points) corners ≡ true → All (IsKey (length points)) (keys_in corners)
+unfolding keys_of_corners
+all_keys points [] few h = All-nil (IsKey (length points))
+all_keys points (t ∷ ts) few h =
+    let parts = and_parts (is_triangle points t) (list_all (is_triangle points) ts) h in
+    let k = corners_there points t parts.0 in
+    let P : ℕ → Type 0 = IsKey (length points) in
+    subst (λ (keys : List ℕ). All P keys) (sym (flat_map-cons keys_of_corners t ts))
+    (All-cons P (key_of t.a t.b) (key_of t.b t.c ∷ key_of t.c t.a ∷ keys_in ts) (is_key (length points) t.a t.b few k.a k.b)
+    (All-cons P (key_of t.b t.c) (key_of t.c t.a ∷ keys_in ts) (is_key (length points) t.b t.c few k.b k.c)
+    (All-cons P (key_of t.c t.a) (keys_in ts) (is_key (length points) t.c t.a few k.c k.a) (all_keys points ts few parts.1))))
+
+length-keys_in : (corners : List Corners) → length (keys_in corners) ≡ 3 * length corners
+unfolding keys_of_corners
+length-keys_in [] = refl
+length-keys_in (t ∷ ts) =
+    ap length (flat_map-cons keys_of_corners t ts) ∙ omega (arith, length-append (keys_of_corners t) (keys_in ts), length-keys_in ts)
+
+-- one triangle's keys more
+pub keys_in_more : (corners : List Corners) (i : ℕ) (t : Corners) → slice_get corners i ≡ Some t → keys_in (take i corners) ++ keys_of_corners t ≡ keys_in (take (i + 1) corners)
+keys_in_more corners i t at =
+    ap (λ (keys : List ℕ). keys_in (take i corners) ++ keys) (sym (append-nil (keys_of_corners t)) ∙ sym (flat_map-cons keys_of_corners t []))
+    ∙ sym (flat_map-append keys_of_corners (take i corners) (t ∷ []))
+    ∙ ap keys_in (append-take_one [] corners i t at)
+
+-- the edges of keys stand as often as the keys'
+edges_times_is : (points : List Point) (keys : List ℕ) (a b : Point) → edges_times (map (edge_between points) keys) a b ≡ keys_times points keys a b
+unfolding edges_times
+edges_times_is points [] a b = sym (keys_times-nil points a b)
+edges_times_is points (key ∷ keys) a b =
+    omega (
+      arith,
+      sum_by-cons (λ (e : BorderEdge). one_if (is_edge a b e.from e.to)) (edge_between points key) (map (edge_between points) keys),
+      keys_times-cons points key keys a b,
+      edges_times_is points keys a b,
+    )
+
+pub triangles_are : (version : ℕ) (lists : BodyLists) → is_body version lists ≡ true → list_all (is_triangle lists.points) lists.corners ≡ true
+unfolding is_body
+triangles_are version lists h = (and_parts (list_all is_in_grid lists.points && is_narrow version lists.points) (list_all (is_triangle lists.points) lists.corners) h).1
+
+-- keys that are left of a body's, in any order
+pub record AreLeftOf (lists : BodyLists) (left : List ℕ) : Type 0 where
+  pub few : length lists.points ≤ 65535
+  pub triangles : list_all (is_triangle lists.points) lists.corners ≡ true
+  pub sorted : List ℕ
+  pub moved : IsPermutation (keys_in lists.corners) sorted
+  pub left_is : IsLeft left sorted
+
+pub are_keys : (lists : BodyLists) (left : List ℕ) → AreLeftOf lists left → All (IsKey (length lists.points)) left
+are_keys lists left h =
+    h.left_is.all (length lists.points) (All-permutation (IsKey (length lists.points)) (keys_in lists.corners) h.sorted h.moved (all_keys lists.points lists.corners h.few h.triangles))
+
+pub border_is : (lists : BodyLists) (left : List ℕ) → AreLeftOf lists left → IsBorderOf (map (edge_between lists.points) left) lists
+unfolding edges_net net
+border_is lists left h =
+    let same : HaveSameNet left (keys_in lists.corners) = same_net_trans _ _ _ h.left_is.net (same_net_permuted (keys_in lists.corners) h.sorted h.moved) in
+    record {
+      net = λ a b.
+          omega (
+            arith,
+            ints,
+            same.same lists.points a b,
+            edges_times_is lists.points left a b,
+            edges_times_is lists.points left b a,
+            all_times lists.points lists.corners a b h.few h.triangles,
+            all_times lists.points lists.corners b a h.few h.triangles,
+          );
+      few = omega (arith, length-map left (edge_between lists.points), h.left_is.few, length_permutation (keys_in lists.corners) h.sorted h.moved, length-keys_in lists.corners);
+    }
+
+-- one edge of the keys more
+pub edges_more : (points : List Point) (keys : List ℕ) (i : ℕ) (from to : Point) (f t : ℕ) → i < length keys → f ≡ from_of (get_or keys i 0) → t ≡ to_of (get_or keys i 0) → slice_get points f ≡ Some from → slice_get points t ≡ Some to → map (edge_between points) (take i keys) ++ (record { from = from; to = to } ∷ []) ≡ map (edge_between points) (take (i + 1) keys)
+unfolding edge_between point_at_place
+edges_more points keys i from to f t within e d there here =
+    let first : from ≡ point_at_place points (from_of (get_or keys i 0)) = sym (ap (λ (n : ℕ). unwrap_or (slice_get points n) origin_point) (sym e) ∙ ap (λ (o : Option Point). unwrap_or o origin_point) there) in
+    let second : to ≡ point_at_place points (to_of (get_or keys i 0)) = sym (ap (λ (n : ℕ). unwrap_or (slice_get points n) origin_point) (sym d) ∙ ap (λ (o : Option Point). unwrap_or o origin_point) here) in
+    map-take_one (edge_between points) keys i 0 (record { from = from; to = to }) within (λ k. record { from = first k; to = second k })
