@@ -33,11 +33,7 @@ pub fn edges_of(alloc: Global, bodies: &[Arc<Body>]) -> Result<EdgeChain, NoMemo
 
 /// Appends the lines of the body's triangles. The texts of its points take the place of those that stood in
 /// `texts`.
-fn write_body(
-    body: &Body,
-    texts: &mut Vec<PointText>,
-    out: &mut Vec<u8>,
-) -> Result<(), NoMemory>
+fn write_body(body: &Body, texts: &mut Vec<PointText>, out: &mut Vec<u8>) -> Result<(), NoMemory>
     ensures ok { OnOk result (Adds out.old.items out.new.items
         (flat_map triangle_line (triangles_of body.now.lists))) }
     ensures err { OnErr result (Begins out.old.items out.new.items) }
@@ -47,11 +43,7 @@ fn write_body(
 }
 
 /// Appends the lines of the bodies' triangles.
-pub fn write_bodies(
-    alloc: Global,
-    bodies: &[Arc<Body>],
-    out: &mut Vec<u8>,
-) -> Result<(), NoMemory>
+pub fn write_bodies(alloc: Global, bodies: &[Arc<Body>], out: &mut Vec<u8>) -> Result<(), NoMemory>
     ensures ok { OnOk result (Adds out.old.items out.new.items
         (flat_map triangle_line (triangles_in (map arc_value bodies.now)))) }
     ensures err { OnErr result (Begins out.old.items out.new.items) }

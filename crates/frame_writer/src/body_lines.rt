@@ -52,11 +52,7 @@ fn write_corners(
 }
 
 /// Appends the lines of the body's triangles, put together from the texts of its points.
-pub fn write_lines(
-    body: &Body,
-    texts: &[PointText],
-    out: &mut Vec<u8>,
-) -> Result<(), NoMemory>
+pub fn write_lines(body: &Body, texts: &[PointText], out: &mut Vec<u8>) -> Result<(), NoMemory>
     requires { texts.now ≡ map shown_point body.now.lists.points }
     ensures ok { OnOk result (Adds out.old.items out.new.items
         (flat_map triangle_line (triangles_of body.now.lists))) }
@@ -66,7 +62,10 @@ pub fn write_lines(
     let _size = body.size();
     for triangle in 0..body.triangle_count() {
         let [a, b, c] = body.corners(triangle);
-        write_corners(text_at(texts, a), text_at(texts, b), text_at(texts, c), out)?;
+        let first = text_at(texts, a);
+        let second = text_at(texts, b);
+        let third = text_at(texts, c);
+        write_corners(first, second, third, out)?;
     }
     Ok(())
 }

@@ -11,18 +11,18 @@ use Rattle.frame_writer.proofs.FrameLemmas.{Adds-triangle}
 use Rattle.frame_writer.proofs.PointTextLemmas.{corners_with_texts, line_from_texts, triangle_there}
 use Rattle.frame_writer.proofs.body_lines.write_lines.Goals as goal
 
-pub text_at-requires : goal.text_at-requires
-text_at-requires c =
+pub text_at-first-requires : goal.text_at-first-requires
+text_at-first-requires c =
     let body = c.args.body.now in
     (corners_with_texts body.version body.lists c.args.texts.now c.loop-triangle.triangle (corners_of c.corners.result) c.size-size.ensures.facts.rules c.requires c.corners.ensures).a
 
-pub text_at-requires-in-loop-triangle : goal.text_at-requires-in-loop-triangle
-text_at-requires-in-loop-triangle c =
+pub text_at-second-requires : goal.text_at-second-requires
+text_at-second-requires c =
     let body = c.args.body.now in
     (corners_with_texts body.version body.lists c.args.texts.now c.loop-triangle.triangle (corners_of c.corners.result) c.size-size.ensures.facts.rules c.requires c.corners.ensures).b
 
-pub text_at-requires-in-loop-triangle-2 : goal.text_at-requires-in-loop-triangle-2
-text_at-requires-in-loop-triangle-2 c =
+pub text_at-third-requires : goal.text_at-third-requires
+text_at-third-requires c =
     let body = c.args.body.now in
     (corners_with_texts body.version body.lists c.args.texts.now c.loop-triangle.triangle (corners_of c.corners.result) c.size-size.ensures.facts.rules c.requires c.corners.ensures).c
 
@@ -34,7 +34,7 @@ loop-triangle-preserved c =
     let lists = c.args.body.now.lists in
     let t = corners_of c.corners.result in
     let there = triangle_there lists.points lists.corners c.loop-triangle.triangle t c.corners.ensures in
-    let line = line_from_texts lists.points c.args.texts.now t c.requires c.text_at.ensures c.text_at-in-loop-triangle.ensures c.text_at-in-loop-triangle-2.ensures in
+    let line = line_from_texts lists.points c.args.texts.now t c.requires c.text_at-first.ensures c.text_at-second.ensures c.text_at-third.ensures in
     Adds-triangle (triangles_of lists) c.loop-triangle.triangle (triangle_of lists.points t) there c.loop-triangle.invariant (subst (λ ts. Adds c.loop-triangle.out.items c.write_corners.new.out.items ts) line c.in_ok-write_corners.ensures.ok)
 
 pub returns-clause-ok : goal.returns-clause-ok
