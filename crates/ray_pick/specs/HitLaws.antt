@@ -1,8 +1,8 @@
 -- Where a ray meets a triangle, by Cramer's rule: the numbers of a hit are alone, and are those of Meetings.
-use Rattle.std.proofs.Common.{◌≡◌, ℕ, zero, suc, ◌+◌, ◌*◌, ◌≤◌, Bool, true, false, not, ◌&&◌, ◌≤ℤ◌, ℤ, pos, negsuc, ◌+ℤ◌, ◌-ℤ◌, ◌*ℤ◌, neg_ℤ, List, [], ◌∷◌, refl, sym, ap, subst, ◌∙◌, arith, ◌≢◌, ltb}
+use Rattle.std.proofs.Common.{◌≡◌, ℕ, zero, suc, ◌+◌, ◌*◌, ◌≤◌, Bool, true, false, not, ◌&&◌, ◌≤ℤ◌, ℤ, pos, negsuc, ◌+ℤ◌, ◌-ℤ◌, ◌*ℤ◌, neg_ℤ, List, [], ◌∷◌, refl, sym, ap, subst, ◌∙◌, arith, ◌≢◌, inl, inr}
 use Rattle.std.specs.Prelude.{unsigned_abs, int_lt}
 use Rattle.std.proofs.lemmas.Int.{ints, unsigned_abs-mul}
-use Rattle.std.proofs.lemmas.Bool.{and_parts}
+use Rattle.std.proofs.lemmas.Bool.{and_parts, cases_lt}
 use Rattle.std.proofs.lemmas.Bool.Decides.{Decides-int_eq}
 use Rattle.std.specs.Ordering.{int_eq}
 use Rattle.ring_laws.specs.Ring.{Exp, X, ◌:+◌, ◌:-◌, ◌:*◌, ring}
@@ -315,3 +315,14 @@ above_is_one ray t a b c d h k = (numbers_of_hit ray t a b h).above_is ∙ sym (
 
 pub below_is_one : (ray : RaySeen) (t : Triangle) (a b c d : ℤ) → IsHitAt ray t a b → IsHitAt ray t c d → b ≡ d
 below_is_one ray t a b c d h k = (numbers_of_hit ray t a b h).below_is ∙ sym (numbers_of_hit ray t c d k).below_is
+
+-- a hit's below isn't 0
+pub below_some : (ray : RaySeen) (t : Triangle) (a b : ℤ) → IsHitAt ray t a b → 1 ≤ unsigned_abs b
+below_some ray t a b h =
+    elim (cases_lt 0 (unsigned_abs b)) [
+      | inl some ↦ some
+      | inr none ↦ absurd (h.hit.crosses (no_size (gain ray t) (plain (gain ray t) b h.hit.below_is none)))
+    ]
+  where
+    plain : (g b : ℤ) → b ≡ pos (unsigned_abs g) → unsigned_abs b ≤ 0 → unsigned_abs g ≡ 0
+    plain g b e none = omega (arith, ints, ap unsigned_abs e)
