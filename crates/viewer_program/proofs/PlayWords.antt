@@ -6,12 +6,14 @@ use Rattle.std.proofs.Math.Seq.{drop-cons}
 use Rattle.std.proofs.lemmas.List.{length-map}
 use Rattle.std.proofs.lemmas.Slice.Eq.{bytes_eq-Decides}
 use Rattle.viewer_program.specs.declared.commands.Command.{Command}
-use Rattle.viewer_program.specs.declared.commands.Command.TheVariants.{Convert}
-use Rattle.viewer_program.specs.Commands.{command_in, version_in, command_with_version_in}
+use Rattle.viewer_program.specs.Commands.{command_in, command_named}
 use Rattle.number_words.specs.Numbers.{number_in}
 use Rattle.viewer_program.specs.declared.plays.TheConstants.{GREATEST_BUDGET}
-use Rattle.viewer_program.specs.Playing.{PlaySeen, with_budget, budgets_in, play_in, play_named}
-use Rattle.viewer_program.specs.Strips.{strip_command_in}
+use Rattle.viewer_program.specs.Playing.{PlaySeen, with_budget, budgets_in, play_in, play_with, wide_play_with}
+use Rattle.strip_laws.specs.declared.limits.TheConstants.{MOST_COLUMNS}
+use Rattle.viewer_program.specs.declared.strips.StripCommand.{StripCommand}
+use Rattle.viewer_program.specs.declared.strips.StripCommand.TheVariants.{Make, Bench}
+use Rattle.viewer_program.specs.Strips.{columns_from, strip_command_in}
 
 abbrev no_seen : Option PlaySeen
 no_seen = None
@@ -19,38 +21,40 @@ no_seen = None
 abbrev no_known : Option Command
 no_known = None
 
-neither : (a b : Bool) → (if a then no_seen else if b then no_seen else no_seen) ≡ no_seen
-neither true b = refl
-neither false true = refl
-neither false false = refl
+abbrev no_strip_known : Option StripCommand
+no_strip_known = None
 
-not_converted : (a : Bool) (version : Option ℕ) → (if a then no_known else if false then option_map Convert version else no_known) ≡ no_known
-not_converted true version = refl
-not_converted false version = refl
+nothing : (b : Bool) → (if b then no_known else no_known) ≡ no_known
+nothing true = refl
+nothing false = refl
 
--- one word behind the name is no budget where it is a version
-no_version : (first name version : List ℕ) (command : Command) → command_with_version_in first name (version_in version) ≡ Some command → play_named first name (version ∷ []) ≡ None
-no_version first name version command is = by_test (bytes_eq first (codes "convert")) refl
+-- the word of a command is none that names no command
+is_another : (first name : List ℕ) (words : List (List ℕ)) (command : Command) (other : List ℕ) → command_named first name words ≡ Some command → command_named other name words ≡ None → bytes_eq first other ≡ false
+is_another first name words command other is none = by_test (bytes_eq first other) refl
   where
-    by_test : (b : Bool) → bytes_eq first (codes "convert") ≡ b → play_named first name (version ∷ []) ≡ None
-    by_test true same = let e : first ≡ codes "convert" = (bytes_eq-Decides first (codes "convert")).0 same in subst (λ (w : List ℕ). play_named w name (version ∷ []) ≡ None) (sym e) refl
-    by_test false other =
-        let none : command_with_version_in first name (version_in version) ≡ None = ap (λ (b : Bool). if length name == 0 then no_known else if b then option_map Convert (version_in version) else no_known) other ∙ not_converted (length name == 0) (version_in version) in
-        let e : None ≡ Some command = sym none ∙ is in
+    by_test : (b : Bool) → bytes_eq first other ≡ b → bytes_eq first other ≡ false
+    by_test true same =
+        let e : None ≡ Some command = sym none ∙ ap (λ (w : List ℕ). command_named w name words) (sym ((bytes_eq-Decides first other).0 same)) ∙ is in
         absurd cc
+    by_test false differ = differ
 
 -- the words of a command are no words of a play
 pub no_play : (words : List (List ℕ)) (command : Command) → command_in words ≡ Some command → play_in words ≡ None
 no_play [] command is = refl
 no_play (a ∷ []) command is = refl
-no_play (a ∷ b ∷ []) command is = neither (bytes_eq a (codes "play")) (bytes_eq a (codes "playw"))
-no_play (a ∷ b ∷ v ∷ []) command is = no_version a b v command is
-no_play (a ∷ b ∷ c ∷ d ∷ []) command is = absurd cc
-no_play (a ∷ b ∷ c ∷ d ∷ e ∷ []) command is = absurd cc
-no_play (a ∷ b ∷ c ∷ d ∷ e ∷ f ∷ []) command is = absurd cc
-no_play (a ∷ b ∷ c ∷ d ∷ e ∷ f ∷ g ∷ []) command is = absurd cc
-no_play (a ∷ b ∷ c ∷ d ∷ e ∷ f ∷ g ∷ h ∷ []) command is = neither (bytes_eq a (codes "play")) (bytes_eq a (codes "playw"))
-no_play (a ∷ b ∷ c ∷ d ∷ e ∷ f ∷ g ∷ h ∷ i ∷ words) command is = absurd cc
+no_play (a ∷ b ∷ words) command is =
+    ap (λ (t : Bool). if t then play_with b (Some 1) words else if bytes_eq a (codes "playw") then wide_play_with b words else no_seen) (is_another a b words command (codes "play") is (nothing (length b == 0)))
+    ∙ ap (λ (t : Bool). if t then wide_play_with b words else no_seen) (is_another a b words command (codes "playw") is (nothing (length b == 0)))
+
+-- nor are they of a command over a strip
+pub no_strip : (words : List (List ℕ)) (command : Command) → command_in words ≡ Some command → strip_command_in words ≡ None
+no_strip [] command is = refl
+no_strip (a ∷ []) command is = refl
+no_strip (a ∷ b ∷ []) command is =
+    let columns = columns_from (number_in MOST_COLUMNS b) in
+    ap (λ (t : Bool). if t then option_map Make columns else if bytes_eq a (codes "bench") then option_map Bench columns else no_strip_known) (is_another a b [] command (codes "make") is (nothing (length b == 0)))
+    ∙ ap (λ (t : Bool). if t then option_map Bench columns else no_strip_known) (is_another a b [] command (codes "bench") is (nothing (length b == 0)))
+no_strip (a ∷ b ∷ c ∷ words) command is = refl
 
 -- and those of a play are none of a command over a strip
 pub no_strip_command : (words : List (List ℕ)) (play : PlaySeen) → play_in words ≡ Some play → strip_command_in words ≡ None

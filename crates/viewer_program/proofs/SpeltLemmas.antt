@@ -6,6 +6,7 @@ use Rattle.std.proofs.Math.Seq.{take-length}
 use Rattle.view_planes.specs.HalfSpaces.{HalfSpaceSeen}
 use Rattle.view_planes.specs.Planes.{PlanesSeen, has_room, with_plane}
 use Rattle.viewer_program.specs.Spelt.{half_space_in, with_one, with_all}
+use Rattle.viewer_program.specs.Commands.{pick_in}
 
 abbrev no_planes : Option PlanesSeen
 no_planes = None
@@ -57,3 +58,13 @@ module _ {X : Type 0} (f : X → List ℕ) (seen : PlanesSeen) where
     next_some plane some room =
         next xs a b c d many is_a is_b is_c is_d ∙ ap (λ (o : Option HalfSpaceSeen). with_all (with_one seen o) (left xs)) some
         ∙ ap (λ (free : Bool). with_all (if free then Some (with_plane seen plane) else no_planes) (left xs)) room
+
+-- five words or fewer spell no view
+pub too_few_for_pick : {X : Type 0} (f : X → List ℕ) (xs : List X) → length xs < 6 → None ≡ pick_in (map f xs)
+too_few_for_pick f [] few = refl
+too_few_for_pick f (x1 ∷ []) few = refl
+too_few_for_pick f (x1 ∷ x2 ∷ []) few = refl
+too_few_for_pick f (x1 ∷ x2 ∷ x3 ∷ []) few = refl
+too_few_for_pick f (x1 ∷ x2 ∷ x3 ∷ x4 ∷ []) few = refl
+too_few_for_pick f (x1 ∷ x2 ∷ x3 ∷ x4 ∷ x5 ∷ []) few = refl
+too_few_for_pick f (x1 ∷ x2 ∷ x3 ∷ x4 ∷ x5 ∷ x6 ∷ xs) few = absurd (omega (arith, few))

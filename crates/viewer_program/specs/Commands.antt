@@ -3,11 +3,10 @@ use Rattle.std.specs.Prelude.{ℕ, ◌==◌, List, [], ◌∷◌, length, Option
 use Rattle.file_model.specs.Rules.{is_version}
 use Rattle.round_model.specs.declared.limits.TheConstants.{EYE_REACH}
 use Rattle.round_model.specs.Views.{ViewSeen}
-use Rattle.ray_pick.specs.declared.rays.TheConstants.{FARTHEST, LONGEST}
 use Rattle.ray_pick.specs.Rays.{RaySeen}
 use Rattle.viewer_program.specs.declared.commands.Command.{Command}
 use Rattle.viewer_program.specs.declared.commands.Command.TheVariants.{Base, Check, Full, Convert, Cull, Sides, Pick}
-use Rattle.viewer_program.specs.Spelt.{version_in, point_in, view_in, half_space_in, planes_in, ray_from}
+use Rattle.viewer_program.specs.Spelt.{version_in, point_in, view_in, half_space_in, planes_in, ray_in}
 
 -- ---- the command of the words behind a file's name
 
@@ -36,8 +35,7 @@ pick_from (Some view) (Some ray) = Some (Pick view ray)
 pick_from view ray = None
 
 abbrev pub pick_in : List (List ℕ) → Option Command
-pick_in (x ∷ y ∷ z ∷ focal ∷ threshold ∷ limit ∷ from_x ∷ from_y ∷ from_z ∷ to_x ∷ to_y ∷ to_z ∷ []) =
-    pick_from (view_in (point_in EYE_REACH x y z) focal threshold limit) (ray_from (point_in FARTHEST from_x from_y from_z) (point_in LONGEST to_x to_y to_z))
+pick_in (x ∷ y ∷ z ∷ focal ∷ threshold ∷ limit ∷ words) = pick_from (view_in (point_in EYE_REACH x y z) focal threshold limit) (ray_in words)
 pick_in words = None
 
 -- the command of a word, a file's name, which isn't empty, and the words behind it

@@ -6,7 +6,7 @@ ghost use Rattle.viewer_program.specs.Commands.{command_in, command_named, comma
 use super::Command;
 use super::spelt::{read_half_space, read_planes, read_point, read_ray, read_version, read_view};
 use error_metric::View;
-use ray_pick::{FARTHEST, LONGEST, Ray};
+use ray_pick::Ray;
 use round_model::EYE_REACH;
 
 /// The command that the words name; none where they are no command. They don't include the
@@ -121,12 +121,10 @@ fn read_pick(words: &[String]) -> Option<Command>
     ensures known { IfSome result IsKnown }
 {
     match words {
-        [x, y, z, focal, threshold, limit, from_x, from_y, from_z, to_x, to_y, to_z] => {
+        [x, y, z, focal, threshold, limit, numbers @ ..] => {
             let eye = read_point(EYE_REACH, x.as_str(), y.as_str(), z.as_str());
             let view = read_view(eye, focal.as_str(), threshold.as_str(), limit.as_str());
-            let origin = read_point(FARTHEST, from_x.as_str(), from_y.as_str(), from_z.as_str());
-            let direction = read_point(LONGEST, to_x.as_str(), to_y.as_str(), to_z.as_str());
-            pick_of(view, read_ray(origin, direction))
+            pick_of(view, read_ray(numbers))
         }
         _ => None,
     }

@@ -2,12 +2,12 @@
 
 ghost use Rattle.std.specs.Prelude.{◌≡◌, ◌<◌, ◌^◌, map, string_bytes, Some, option_map, IfSome, IsTrue};
 ghost use Rattle.file_model.specs.Rules.{is_version};
-ghost use Rattle.viewer_program.specs.Spelt.{version_in, point_in, view_in, half_space_in, with_all, planes_in, ray_from};
+ghost use Rattle.viewer_program.specs.Spelt.{version_in, point_in, view_in, half_space_in, with_all, planes_in, ray_from, ray_in};
 
 use error_metric::View;
 use grid_vertex::Point;
 use number_words::{read_number, read_signed, read_wide_signed};
-use ray_pick::Ray;
+use ray_pick::{FARTHEST as ORIGIN_REACH, LONGEST, Ray};
 use round_model::{GREATEST_FOCAL, GREATEST_THRESHOLD};
 use view_planes::{FARTHEST, HalfSpace, Planes, STEEPEST};
 
@@ -80,11 +80,25 @@ pub fn read_planes(view: Option<View>, words: &[String]) -> Option<Planes>
     add_half_spaces(Planes::new(view), words)
 }
 
-/// The ray from a point on in a direction.
-pub fn read_ray(origin: Option<Point>, direction: Option<Point>) -> Option<Ray>
+// The ray from a point on in a direction.
+fn ray_from(origin: Option<Point>, direction: Option<Point>) -> Option<Ray>
     ensures { result ≡ ray_from origin direction }
 {
     let origin = origin?;
     let direction = direction?;
     Ray::new(origin, direction)
+}
+
+/// The ray that the words spell, its origin first.
+pub fn read_ray(words: &[String]) -> Option<Ray>
+    ensures { result ≡ ray_in (map string_bytes words.now) }
+{
+    match words {
+        [x, y, z, to_x, to_y, to_z] => {
+            let origin = read_point(ORIGIN_REACH, x.as_str(), y.as_str(), z.as_str());
+            let direction = read_point(LONGEST, to_x.as_str(), to_y.as_str(), to_z.as_str());
+            ray_from(origin, direction)
+        }
+        _ => None,
+    }
 }
