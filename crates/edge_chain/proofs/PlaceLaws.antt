@@ -57,3 +57,7 @@ module _ {K : Type 0} (R : K → K → Ordering) where
 
   pub total_fits : (es : List (K × ℤ)) (k : ℕ) (q : K) → weight es < 2 ^ 63 → unsigned_abs (total R (take k es) q) < 2 ^ 63
   total_fits es k q small = omega (arith, total_small R (take k es) q, weight_take es k)
+
+  -- a total that was computed
+  pub total_back : (es : List (K × ℤ)) (q : K) (z : ℤ) → weight es < 2 ^ 63 → z ≡ total R es q → to_z w64 (of_z w64 z) ≡ total R es q
+  total_back es q z small is = ap (λ (x : ℤ). to_z w64 (of_z w64 x)) is ∙ read_back (total R es q) (omega (arith, total_small R es q))

@@ -1,8 +1,9 @@
 -- Each sum joins the kept ones or goes behind them.
-use Rattle.std.proofs.Common.{◌≡◌, sym, subst, ℕ, ◌+◌, ◌<◌, ◌≤◌, ◌^◌, arith, ◌++◌, length, take, drop, get_or, List, ℤ}
+use Rattle.std.proofs.Common.{rules, ◌≡◌, ◌∙◌, sym, ap, ℕ, ◌+◌, ◌<◌, ◌≤◌, ◌^◌, arith, ◌++◌, length, take, drop, get_or, List, ℤ}
 use Rattle.std.specs.Prelude.{unsigned_abs}
 use mir.Syntax.{w64}
-use mir.Val.{to_z, of_z}
+use mir.Val.{SFits, to_z, of_z}
+use Rattle.std.proofs.lemmas.Int.{to_z-of_z}
 use Rattle.edge_chain.specs.declared.edges.Edge.{Edge}
 use Rattle.edge_chain.specs.Edges.{edge_cmp, edge_cmp_total, edge_cmp_exact}
 use Rattle.edge_chain.specs.Totals.{weight, alone}
@@ -36,9 +37,13 @@ pub meet-front-requires-clause-small : goal.meet-front-requires-clause-small
 meet-front-requires-clause-small c = read_small c.loop-at.sums c.args.sums.now c.loop-at.kept c.loop-at.at _ (omega arith) c.requires.small c.loop-at.invariant.gathers
 
 pub loop-at-preserved : goal.loop-at-preserved
-loop-at-preserved c = record {
+loop-at-preserved c =
+  let both : ℤ = c.meet-front.result.1 in
+  let fits : SFits w64 both = search rules in
+  record {
   front = omega (arith, c.place-kept.ensures.next, c.meet-front.ensures.front);
   gathers =
       step c.loop-at.sums c.args.sums.now c.loop-at.kept c.loop-at.at _ (omega arith) c.requires.small c.loop-at.invariant.gathers
-      c.place-kept.new.sums c.meet-front.result.0 c.place-kept.result c.meet-front.result.1 (omega arith) c.meet-front.ensures.both c.place-kept.ensures.kept c.place-kept.ensures.rest;
+      c.place-kept.new.sums c.meet-front.result.0 c.place-kept.result c.meet-front.result.1 (omega arith) c.meet-front.ensures.both
+      (c.place-kept.ensures.kept ∙ ap (λ (z : ℤ). take c.meet-front.result.0 c.loop-at.sums ++ alone ((get_or c.loop-at.sums c.loop-at.at _).0, z)) (to_z-of_z w64 both fits)) c.place-kept.ensures.rest;
 }

@@ -1,6 +1,6 @@
 -- A sort moves the sums, and keeps their totals.
-use Rattle.std.proofs.Common.{◌≡◌, ◌∙◌, sym, subst, ℕ, ◌<◌, ◌≤◌, ◌^◌, arith, List, [], ◌++◌, length, take, take-take, ℤ}
-use Rattle.std.proofs.lemmas.List.{take-append-le}
+use Rattle.std.proofs.Common.{◌≡◌, ◌∙◌, sym, subst, ℕ, ◌<◌, ◌≤◌, ◌^◌, arith, List, [], ◌++◌, length, take, ℤ}
+use Rattle.std.proofs.lemmas.List.{take-append-le, take-take}
 use Rattle.edge_chain.specs.declared.edges.Edge.{Edge}
 use Rattle.edge_chain.specs.Edges.{edge_cmp, edge_cmp_total, edge_cmp_exact}
 use Rattle.edge_chain.specs.Gathers.{Gathers, Gathered}
@@ -11,7 +11,7 @@ use Rattle.edge_chain.proofs.gathers.gather_sums.Goals as goal
 
 -- what is kept of a slice that was lent from a `Vec`
 front_of_written : {X : Type 0} (n len : ℕ) (xs rest : List X) → n ≤ length xs → n ≤ len → take n (take len (xs ++ rest)) ≡ take n xs
-front_of_written n len xs rest within short = ?
+front_of_written n len xs rest within short = take-take n len (xs ++ rest) short ∙ take-append-le n xs rest within
 
 pub gather_sorted-kept-requires-clause-small : goal.gather_sorted-kept-requires-clause-small
 gather_sorted-kept-requires-clause-small c =
