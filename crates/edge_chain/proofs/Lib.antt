@@ -1,6 +1,6 @@
-pub mod SumLaws
-pub mod Views
-pub mod DirectedEdges
-pub mod Totals
-pub mod Added
-pub mod Gapped
+pub mod TotalLaws
+pub mod GatherLaws
+pub mod EdgeLaws
+pub mod ViewLaws
+pub mod FindLaws
+pub mod PlaceLaws

@@ -50,7 +50,7 @@ module _ {K : Type 0} (R : K → K → Ordering) where
     pub ascending : IsStrictlySortedBy R (keys_of es)
     pub not_zero : AllByRecursion (λ e. e.1 ≢ pos 0) es
 
-  tight_tail : (e : K × ℤ) (es : List (K × ℤ)) → IsTight (e ∷ es) → IsTight es
+  pub tight_tail : (e : K × ℤ) (es : List (K × ℤ)) → IsTight (e ∷ es) → IsTight es
   tight_tail e es h = record { ascending = sorted_tail R e.0 (keys_of es) h.ascending; not_zero = h.not_zero.1 }
 
   -- what holds of each key of two lists holds of the gap's
@@ -66,21 +66,21 @@ module _ {K : Type 0} (R : K → K → Ordering) where
   gap_key P (e ∷ es) (f ∷ fs) h k = gap_key_by P (R e.0 f.0) e f (first_gap es fs) h.0 k.0 (gap_key P es fs h.1 k.1)
 
   module _ (o : IsTotalOrder R) (exact : CmpEqualImpliesEq R) where
-    lt_less : (r : Ordering) → is_lt r ≡ true → r ≡ Less
+    pub lt_less : (r : Ordering) → is_lt r ≡ true → r ≡ Less
     lt_less Less e = refl
     lt_less Equal e = absurd cc
     lt_less Greater e = absurd cc
 
-    below_head : (q : K) (e : K × ℤ) (es : List (K × ℤ)) → IsTight (e ∷ es) → R q e.0 ≡ Less → at_key (e ∷ es) q ≡ pos 0
+    pub below_head : (q : K) (e : K × ℤ) (es : List (K × ℤ)) → IsTight (e ∷ es) → R q e.0 ≡ Less → at_key (e ∷ es) q ≡ pos 0
     below_head q e es h p = ap (λ (r : Option ℤ). unwrap_or r (pos 0)) (lookup-none (is_at (R q)) (e ∷ es) (none_below_head o q e es h.ascending p))
 
-    at_tie : (q : K) (e : K × ℤ) (es : List (K × ℤ)) → R q e.0 ≡ Equal → at_key (e ∷ es) q ≡ e.1
+    pub at_tie : (q : K) (e : K × ℤ) (es : List (K × ℤ)) → R q e.0 ≡ Equal → at_key (e ∷ es) q ≡ e.1
     at_tie q e es p = ap (λ (r : Option ℤ). unwrap_or r (pos 0)) (lookup_head (is_at (R q)) e es (ap is_eq p))
 
-    past_head : (q : K) (e : K × ℤ) (es : List (K × ℤ)) → R q e.0 ≡ Greater → at_key (e ∷ es) q ≡ at_key es q
+    pub past_head : (q : K) (e : K × ℤ) (es : List (K × ℤ)) → R q e.0 ≡ Greater → at_key (e ∷ es) q ≡ at_key es q
     past_head q e es p = ap (λ (r : Option ℤ). unwrap_or r (pos 0)) (lookup_tail (is_at (R q)) e es (ap is_eq p))
 
-    turned : (x y : K) (r : Ordering) → R x y ≡ r → R y x ≡ ordering_reverse r
+    pub turned : (x y : K) (r : Ordering) → R x y ≡ r → R y x ≡ ordering_reverse r
     turned x y r p = o.antisymm y x ∙ ap ordering_reverse p
 
     least_past : (e : K × ℤ) (es fs : List (K × ℤ)) (g : Gap K) → IsTight (e ∷ es) → IsTight (e ∷ fs) → IsGap es fs g → (q : K) → is_lt (R q g.0) ≡ true → (r : Ordering) → R q e.0 ≡ r → at_key (e ∷ es) q ≡ at_key (e ∷ fs) q

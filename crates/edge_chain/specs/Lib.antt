@@ -4,6 +4,9 @@ pub mod Gaps
 pub mod Entries
 pub mod NetLaws
 pub mod Edges
+pub mod Totals
+pub mod Gathers
 pub mod Sums
 pub mod Differences
+pub mod Scans
 pub mod Borders

@@ -1,5 +1,5 @@
 -- Laws of nets, and of the chains that hold them.
-use Rattle.std.specs.Prelude.{◌≡◌, ◌↔◌, ◌+◌, true, List, [], ◌∷◌, ◌++◌, ℤ, pos, ◌+ℤ◌, neg_ℤ, IsTrue, refl}
+use Rattle.std.specs.Prelude.{◌≡◌, ◌↔◌, ◌+◌, true, List, [], ◌∷◌, ◌++◌, length, ℤ, pos, ◌+ℤ◌, neg_ℤ, IsTrue, refl}
 use Rattle.std.proofs.Common.{sym, ap, ◌∙◌, arith, length-append}
 use Rattle.std.specs.declared.cmp.Ordering.{Ordering}
 use Rattle.std.specs.declared.cmp.Ordering.TheVariants.{Less, Equal, Greater}
@@ -11,6 +11,8 @@ use Rattle.grid_vertex.specs.declared.triangles.Triangle.{Triangle}
 use Rattle.mesh_model.specs.Nets.{times, net, Pair, is_before, is_forward, AreOpen, HaveOneNet}
 use Rattle.mesh_model.specs.NetLaws.{times-append}
 use Rattle.edge_chain.specs.declared.differences.Difference.{Difference}
+use Rattle.edge_chain.specs.declared.edges.BorderEdge.{BorderEdge}
+use Rattle.edge_chain.specs.Borders.{AreBorder, AddsEdges}
 use Rattle.edge_chain.specs.Chains.{kept_net, Chain, HoldSame, Adds, IsNetOf, IsFirstDifference, IsFirstNetDifference}
 use Rattle.edge_chain.specs.Orders.{point_cmp, point_cmp_total, point_cmp_exact, is_before_is}
 use Rattle.edge_chain.specs.Entries.{entry_from_key, contains_key_from_held, entries_from_held}
@@ -45,6 +47,14 @@ one_net_at first second a b Greater e h =
 
 pub one_net_from_forward : (first second : List Triangle) → ((p : Pair) → IsTrue (is_forward p) → net first p.a p.b ≡ net second p.a p.b) → HaveOneNet first second
 one_net_from_forward first second h a b = one_net_at first second a b (point_cmp a b) refl h
+
+-- more triangles, by their border
+pub IsNetOf-add_edges : (triangles more : List Triangle) (edges : List BorderEdge) (before after : Chain) → IsNetOf triangles before → AddsEdges edges (length more) before after → AreBorder edges more → IsNetOf (triangles ++ more) after
+IsNetOf-add_edges triangles more edges before after h k border = record {
+  count = k.count ∙ ap (λ n. n + length more) h.count ∙ sym (length-append triangles more);
+  nets = λ p forward. k.nets p forward ∙ (λ i. h.nets p forward i +ℤ border p.a p.b i) ∙ sym (net-append triangles more p.a p.b);
+  entries = k.entries;
+}
 
 -- one more triangle
 pub IsNetOf-add : (triangles : List Triangle) (triangle : Triangle) (before after : Chain) → IsNetOf triangles before → Adds triangle before after → IsNetOf (triangles ++ triangle ∷ []) after

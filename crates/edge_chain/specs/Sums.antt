@@ -1,69 +1,35 @@
--- Maps of sums, as functions from an edge to its sum.
-use Rattle.std.specs.Prelude.{◌≡◌, ◌≢◌, ℕ, ◌≤◌, Bool, List, map, ℤ, pos, ◌+ℤ◌, Option, Some, None, option_map, unwrap_or, unsigned_abs, IsTrue, if◌then◌else◌}
-use Rattle.std.specs.Map.{update}
-use Rattle.std.specs.Ordering.{eq_by_cmp, int_eq}
-use Rattle.std.specs.BTreeMap.{BTreeMap, get, IsOrdered}
+-- The sums of a chain.
+use Rattle.std.specs.Prelude.{◌≡◌, ℕ, ◌*◌, ◌^◌, ◌≤◌, Bool, true, false, cond, List, [], ◌∷◌, map, ℤ, pos}
+use Rattle.std.specs.List.{flat_map}
+use Rattle.grid_vertex.specs.Points.{is_same_point}
 use Rattle.mesh_model.specs.Nets.{Pair, is_forward}
-use Rattle.edge_chain.specs.Chains.{Chain}
 use Rattle.edge_chain.specs.declared.edges.Edge.{Edge}
-use Rattle.edge_chain.specs.declared.edges.DirectedEdge.{DirectedEdge}
-use Rattle.edge_chain.specs.Edges.{edge_cmp, pair_of}
+use Rattle.edge_chain.specs.declared.edges.BorderEdge.{BorderEdge}
+use Rattle.edge_chain.specs.Chains.{Chain}
+use Rattle.edge_chain.specs.Edges.{edge_cmp, pair_of, side_of}
+use Rattle.edge_chain.specs.Gaps.{IsTight}
+use Rattle.edge_chain.specs.Totals.{total, weight, normal}
 
--- the edge's sum, if it has one
-abbrev pub sum_of : BTreeMap Edge ℤ → Edge → Option ℤ
-sum_of sums edge = get edge_cmp sums edge
+-- what an edge adds; one from a point to itself adds nothing
+abbrev pub sums_of_edge : BorderEdge → List (Edge × ℤ)
+sums_of_edge e = cond (is_same_point e.from e.to) [] (side_of e.from e.to ∷ [])
 
-abbrev pub is_at_edge : Edge → Edge → Bool
-is_at_edge = eq_by_cmp edge_cmp
+abbrev pub sums_of : List BorderEdge → List (Edge × ℤ)
+sums_of edges = flat_map sums_of_edge edges
 
--- a sum, 0 where there is none
-abbrev pub or_zero : Option ℤ → ℤ
-or_zero sum = unwrap_or sum (pos 0)
+-- the sums of a chain of so many triangles; only edges whose lesser point comes first have a total
+pub record AreSums (sums : List (Edge × ℤ)) (gathered : Bool) (triangles : ℕ) : Type 0 where
+  pub forward : (q : Edge) → is_forward (pair_of q) ≡ false → total edge_cmp sums q ≡ pos 0
+  pub small : weight sums ≤ 3 * triangles
+  pub few : triangles ≤ 2 ^ 60
+  pub tight : gathered ≡ true → IsTight edge_cmp sums
 
--- a sum, unless it is 0
-abbrev pub unless_zero : Option ℤ → Option ℤ
-unless_zero None = None
-unless_zero (Some sum) = if int_eq sum (pos 0) then None else Some sum
+abbrev pub seen : Edge × ℤ → Pair × ℤ
+seen e = (pair_of e.0, e.1)
 
--- the sums with another one at the edge
-abbrev pub with_sum : (Edge → Option ℤ) → Edge → Option ℤ → Edge → Option ℤ
-with_sum sums edge sum = update is_at_edge sums edge sum
+-- the totals that aren't 0, as the entries of a chain
+abbrev pub entries_of : List (Edge × ℤ) → List (Pair × ℤ)
+entries_of sums = map seen (normal edge_cmp sums)
 
--- the edge has a sum, 0 if it had none
-abbrev pub sums_with_place : (Edge → Option ℤ) → Edge → Edge → Option ℤ
-sums_with_place sums edge = with_sum sums edge (Some (or_zero (sums edge)))
-
--- the edge has no sum if that is 0
-abbrev pub sums_without_zero : (Edge → Option ℤ) → Edge → Edge → Option ℤ
-sums_without_zero sums edge = with_sum sums edge (unless_zero (sums edge))
-
--- a sum with the directed edge's sign added
-abbrev pub signed_sum : DirectedEdge → Option ℤ → Option ℤ
-signed_sum directed sum = option_map (λ s. s +ℤ directed.sign) sum
-
--- the directed edge is added to its edge's sum, which goes if it is 0
-abbrev pub sums_with_edge : (Edge → Option ℤ) → DirectedEdge → Edge → Option ℤ
-sums_with_edge sums directed = with_sum sums directed.edge (unless_zero (signed_sum directed (sums directed.edge)))
-
--- the map has these sums, in order
-pub record HasSums (sums : BTreeMap Edge ℤ) (wanted : Edge → Option ℤ) : Type 0 where
-  pub each : (q : Edge) → sum_of sums q ≡ wanted q
-  pub ordered : IsOrdered edge_cmp sums
-
--- a sum in a chain of so many triangles: the edge's lesser point comes first, and the sum isn't 0
-pub record IsSum (triangles : ℕ) (edge : Edge) (sum : ℤ) : Type 0 where
-  pub forward : IsTrue (is_forward (pair_of edge))
-  pub not_zero : sum ≢ pos 0
-  pub small : unsigned_abs sum ≤ triangles
-
--- the sums of a chain
-pub record AreSums (sums : BTreeMap Edge ℤ) (triangles : ℕ) : Type 0 where
-  pub ordered : IsOrdered edge_cmp sums
-  pub each : (q : Edge) (sum : ℤ) → sum_of sums q ≡ Some sum → IsSum triangles q sum
-
--- the map as the entries of a chain
-abbrev pub entries_of : BTreeMap Edge ℤ → List (Pair × ℤ)
-entries_of sums = map (λ e. (pair_of e.0, e.1)) sums.entries
-
-abbrev pub chain_of : BTreeMap Edge ℤ → ℕ → Chain
+abbrev pub chain_of : List (Edge × ℤ) → ℕ → Chain
 chain_of sums triangles = record { entries = entries_of sums; count = triangles }

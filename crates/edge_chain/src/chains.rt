@@ -1,27 +1,35 @@
 //! Chains of edges.
 
-ghost use Rattle.std.specs.Prelude.{◌≡◌, false, ◌<◌, ◌^◌, ◌↔◌, List, [], ◌∷◌, ◌++◌, length, OnOk, OnErr, IfSome, None, IsTrue};
+ghost use Rattle.std.specs.Prelude.{◌≡◌, false, ◌+◌, ◌*◌, ◌<◌, ◌≤◌, ◌^◌, ◌↔◌, List, [], ◌∷◌, ◌++◌, length, OnOk, OnErr, IfSome, None, IsTrue};
 ghost use Rattle.std.specs.Map.{keys_of};
 ghost use Rattle.grid_vertex.specs.declared.triangles.Triangle.{Triangle};
 ghost use Rattle.grid_vertex.specs.Triangles.{is_flat_triangle};
 ghost use Rattle.mesh_model.specs.Nets.{AreOpen, HaveOneNet};
+ghost use Rattle.edge_chain.specs.Borders.{AreBorder, AddsEdges};
 ghost use Rattle.edge_chain.specs.Chains.{HoldSame, Adds, IsNetOf, IsFirstDifference, IsFirstNetDifference};
 
-use crate::differences::{Difference, first_gap};
-use crate::edges::DirectedEdge;
-use crate::sums::{Sums, place_each, raise};
+use crate::counts::count_open;
+use crate::differences::Difference;
+use crate::edges::BorderEdge;
+use crate::gathers::gather_sums;
+use crate::scans::find_difference;
+use crate::sums::{Sum, push_edges};
 use grid_vertex::{NoMemory, Triangle};
 use std::alloc::Global;
-use std::collections::BTreeMap;
 use std::marker::Model;
 
 /// The sums of the edges of triangles, with sign, and the number of triangles.
 ///
 /// A pair of points, the lesser one first, has the number of edges from it to the other less the
-/// number of edges back; pairs with 0 aren't kept.
+/// number of edges back; pairs with 0 don't count.
 #[derive(Drop)]
 pub struct EdgeChain {
-    sums: Sums,
+    // Gathered sums, then what was added since: an edge may stand there more than once.
+    sums: Vec<Sum>,
+    // How many sums the last gathering left.
+    settled: usize,
+    // Whether nothing was added since then.
+    gathered: bool,
     triangles: u64,
 }
 
@@ -31,9 +39,9 @@ impl Model for EdgeChain {
 
     ghost Value = { Chain };
 
-    ghost view = { λ c. chain_of c.sums c.triangles };
+    ghost view = { λ c. chain_of c.sums.items c.triangles };
 
-    ghost invariant = { λ c. AreSums c.sums c.triangles };
+    ghost invariant = { λ c. AreSums c.sums.items c.gathered c.triangles };
 }
 
 impl EdgeChain {
@@ -44,7 +52,9 @@ impl EdgeChain {
         ensures nets { IsNetOf [] result }
     {
         EdgeChain {
-            sums: BTreeMap::new(alloc),
+            sums: Vec::new(alloc),
+            settled: 0,
+            gathered: true,
             triangles: 0,
         }
     }
@@ -60,15 +70,48 @@ impl EdgeChain {
             → IsNetOf (triangles ++ triangle ∷ []) self.new) }
         ensures unchanged { OnErr result (self.new ≡ self.old) }
     {
-        let ab = DirectedEdge::between(triangle.a, triangle.b);
-        let bc = DirectedEdge::between(triangle.b, triangle.c);
-        let ca = DirectedEdge::between(triangle.c, triangle.a);
-        place_each(&mut self.sums, ab.edge, bc.edge, ca.edge)?;
-        raise(&mut self.sums, ab);
-        raise(&mut self.sums, bc);
-        raise(&mut self.sums, ca);
-        self.triangles += 1;
+        self.add_edges(&BorderEdge::sides(triangle), 1)
+    }
+
+    /// Adds edges that are the border of so many triangles. An edge from a point to itself adds
+    /// nothing. On want of memory the chain is as before. Condition: there are at most three edges
+    /// a triangle, and at most 2^60 triangles in all.
+    pub fn add_edges(&mut self, edges: &[BorderEdge], triangles: u64) -> Result<(), NoMemory>
+        requires room { self.old.count + triangles ≤ 2 ^ 60 }
+        requires few { length edges.now ≤ 3 * triangles }
+        ensures added { OnOk result (AddsEdges edges.now triangles self.old self.new) }
+        ensures nets { OnOk result
+            ((before more : List Triangle) → IsNetOf before self.old → AreBorder edges.now more
+            → length more ≡ triangles → IsNetOf (before ++ more) self.new) }
+        ensures unchanged { OnErr result (self.new ≡ self.old) }
+    {
+        self.gather_if_grown();
+        self.sums.reserve(edges.len())?;
+        push_edges(&mut self.sums, edges);
+        self.gathered = false;
+        self.triangles += triangles;
         Ok(())
+    }
+
+    /// Sorts the sums and joins those of one edge, which takes no memory: what is asked next needs
+    /// one pass.
+    pub fn gather(&mut self)
+        ensures { self.new ≡ self.old }
+    {
+        if !self.gathered {
+            gather_sums(&mut self.sums);
+            self.settled = self.sums.len();
+            self.gathered = true;
+        }
+    }
+
+    // So memory is in proportion to the edges that don't cancel, and time to the edges added.
+    fn gather_if_grown(&mut self)
+        ensures { self.new ≡ self.old }
+    {
+        if self.sums.len() / 2 > self.settled {
+            self.gather();
+        }
     }
 
     /// The number of triangles that were added.
@@ -78,26 +121,29 @@ impl EdgeChain {
         self.triangles
     }
 
-    /// The number of pairs whose edges don't cancel.
+    /// The number of pairs whose edges don't cancel. It is right without `gather`, but then takes
+    /// quadratic time.
     pub fn open_edges(&self) -> u64
         ensures pairs { result ≡ length self.now.entries }
         ensures nets { (triangles : List Triangle) → IsNetOf triangles self.now
             → AreOpen triangles (keys_of self.now.entries) }
     {
-        self.sums.len() as u64
+        count_open(&self.sums, self.gathered) as u64
     }
 
-    /// Tells whether the sums are equal; the numbers of triangles don't count.
+    /// Tells whether the sums are equal; the numbers of triangles don't count. It is right without
+    /// `gather`, but then takes quadratic time.
     pub fn equals(&self, other: &EdgeChain) -> bool
         ensures entries { IsTrue result ↔ (self.now.entries ≡ other.now.entries) }
         ensures pairs { IsTrue result ↔ HoldSame self.now.entries other.now.entries }
         ensures nets { (here there : List Triangle) → IsNetOf here self.now
             → IsNetOf there other.now → IsTrue result ↔ HaveOneNet here there }
     {
-        first_gap(&self.sums, &other.sums).is_none()
+        self.first_difference(other).is_none()
     }
 
-    /// The least pair whose sums differ, or None where all are equal.
+    /// The least pair whose sums differ, or None where all are equal. It is right without `gather`
+    /// of both, but then takes quadratic time.
     pub fn first_difference(&self, other: &EdgeChain) -> Option<Difference>
         ensures none { (result ≡ None) ↔ (self.now.entries ≡ other.now.entries) }
         ensures least { IfSome result (IsFirstDifference self.now.entries other.now.entries) }
@@ -108,6 +154,6 @@ impl EdgeChain {
             (here there : List Triangle) → IsNetOf here self.now → IsNetOf there other.now
             → IsFirstNetDifference here there difference) }
     {
-        first_gap(&self.sums, &other.sums)
+        find_difference(&self.sums, &other.sums, self.gathered && other.gathered)
     }
 }

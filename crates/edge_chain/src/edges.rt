@@ -1,9 +1,9 @@
-//! Edges without a direction, and the sides of triangles.
+//! Edges without a direction, and directed ones.
 
 ghost use Rattle.std.specs.Prelude.{◌≡◌};
-ghost use Rattle.edge_chain.specs.Edges.{side_of};
+ghost use Rattle.edge_chain.specs.Edges.{sides_of};
 
-use grid_vertex::Point;
+use grid_vertex::{Point, Triangle};
 
 /// An edge without a direction, its lesser point first.
 #[derive(Clone, Copy, Debug, PartialEq, Eq, PartialOrd, Ord)]
@@ -12,35 +12,23 @@ pub struct Edge {
     pub b: Point,
 }
 
-/// A directed edge of a triangle: its edge, and 1 where it goes from the lesser point to the greater, else -1.
-#[derive(Clone, Copy, Debug, PartialEq, Eq)]
-pub struct DirectedEdge {
-    pub edge: Edge,
-    pub sign: i64,
-}
-
-impl DirectedEdge {
-    /// The directed edge that goes from one point to another.
-    pub fn between(from: Point, to: Point) -> DirectedEdge
-        ensures { result ≡ side_of from to }
-    {
-        if from.cmp(&to).is_lt() {
-            DirectedEdge {
-                edge: Edge { a: from, b: to },
-                sign: 1,
-            }
-        } else {
-            DirectedEdge {
-                edge: Edge { a: to, b: from },
-                sign: -1,
-            }
-        }
-    }
-}
-
 /// A directed edge of a border: it goes from one point to another.
 #[derive(Clone, Copy, Debug, PartialEq, Eq)]
 pub struct BorderEdge {
     pub from: Point,
     pub to: Point,
+}
+
+impl BorderEdge {
+    /// The edges of a triangle, from corner to corner in order.
+    pub(crate) fn sides(triangle: Triangle) -> [BorderEdge; 3]
+        ensures { result ≡ sides_of triangle }
+    {
+        let Triangle { a, b, c } = triangle;
+        [
+            BorderEdge { from: a, to: b },
+            BorderEdge { from: b, to: c },
+            BorderEdge { from: c, to: a },
+        ]
+    }
 }

@@ -5,8 +5,11 @@
 #![tactic(auto)]
 
 mod chains;
+mod counts;
 mod differences;
 mod edges;
+mod gathers;
+mod scans;
 mod sums;
 
 pub use chains::EdgeChain;

@@ -1,10 +1,10 @@
 -- The difference of two heads is that of the lists.
-use Rattle.std.proofs.Common.{◌≡◌, ◌∙◌, sym, ap, List, ◌∷◌, ℤ, Bool, true, false}
+use Rattle.std.proofs.Common.{◌≡◌, ◌∙◌, sym, ap, arith, ◌<◌, ◌≤◌, length, List, ◌∷◌, ℤ, Bool, true, false}
 use Rattle.std.specs.Prelude.{Option, Some, None, option_map, if◌then◌else◌}
 use Rattle.std.specs.declared.cmp.Ordering.{Ordering}
 use Rattle.std.specs.declared.cmp.Ordering.TheVariants.{Less, Equal, Greater}
 use Rattle.std.specs.Ordering.{int_eq}
-use Rattle.std.specs.Map.Iter.{deref_pair}
+use Rattle.std.proofs.lemmas.List.{drop_more}
 use Rattle.edge_chain.specs.declared.differences.Difference.{Difference}
 use Rattle.edge_chain.specs.declared.edges.Edge.{Edge}
 use Rattle.edge_chain.specs.Edges.{edge_cmp}
@@ -26,5 +26,13 @@ heads e f es fs ours theirs d x y h = rw (x, y) (some_gap (edge_cmp e.0 f.0) e f
 
 pub returns-in-Some : goal.returns-in-Some
 returns-in-Some c =
-    heads (deref_pair c.in-Some-Some.our_sum) (deref_pair c.in-Some-Some.their_sum) _ _ c.loop-edge.ours c.loop-edge.theirs c.in-Some.difference c.in-Some-Some.ensures.steps c.in-Some-Some.ensures'.steps c.in-Some.ensures
-    ∙ ap (option_map difference_of) (sym c.loop-edge.invariant)
+    let ours : c.loop-at.at < length c.args.here.now = omega arith in
+    let theirs : c.loop-at.at < length c.args.there.now = omega arith in
+    heads _ _ _ _ _ _ c.in-Some.difference (drop_more c.args.here.now c.loop-at.at _ ours) (drop_more c.args.there.now c.loop-at.at _ theirs) c.in-Some.ensures
+    ∙ ap (option_map difference_of) (sym c.loop-at.invariant)
+
+pub returns-in-Some-default : goal.returns-in-Some-default
+returns-in-Some-default c = let h = c.in-Some-default in let a = c.at in ?
+
+pub returns-in-None-Some : goal.returns-in-None-Some
+returns-in-None-Some c = let h = c.in-None-Some in ?

@@ -1,8 +1,8 @@
--- What is left of the two maps has the gap of the whole maps.
-use Rattle.std.proofs.Common.{◌≡◌}
+-- What is left of the two lists has the gap of the whole lists.
+use Rattle.std.proofs.Common.{◌≡◌, drop}
 use Rattle.edge_chain.specs.Edges.{edge_cmp}
 use Rattle.edge_chain.specs.Gaps.{first_gap}
 use Rattle.edge_chain.proofs.differences.first_gap.Given as goal
 
-abbrev pub invariant-loop-edge : goal.invariant-loop-edge
-invariant-loop-edge l = first_gap edge_cmp l.here.entries l.there.entries ≡ first_gap edge_cmp l.ours l.theirs
+abbrev pub invariant-loop-at : goal.invariant-loop-at
+invariant-loop-at l = first_gap edge_cmp l.here l.there ≡ first_gap edge_cmp (drop l.at l.here) (drop l.at l.there)

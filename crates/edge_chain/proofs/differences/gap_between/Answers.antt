@@ -24,9 +24,9 @@ unequal o e f d tie apart is = rw (tie, apart, is) refl
 
 pub returns-in-Equal-2 : goal.returns-in-Equal-2
 returns-in-Equal-2 c =
-    let here : ℤ = c.args.ours.1.now in
-    let there : ℤ = c.args.theirs.1.now in
+    let here : ℤ = c.args.ours.1 in
+    let there : ℤ = c.args.theirs.1 in
     let here_fits : SFits w64 here = search rules in
     let there_fits : SFits w64 there = search rules in
-    unequal _ (c.args.ours.0.now, here) (c.args.theirs.0.now, there) c.at-in-Equal-2.result (sym c.in-Equal-2.ensures) (not_equal here there (int_eq here there) refl c.if-here-there.false)
-    (c.at-in-Equal-2.ensures ∙ (λ i. difference_at c.args.ours.0.now (to_z-of_z w64 here here_fits i) (to_z-of_z w64 there there_fits i)))
+    unequal _ c.args.ours c.args.theirs c.at-in-Equal-2.result (sym c.in-Equal-2.ensures) (not_equal here there (int_eq here there) refl c.if-here-there.false)
+    (c.at-in-Equal-2.ensures ∙ (λ i. difference_at c.args.ours.0 (to_z-of_z w64 here here_fits i) (to_z-of_z w64 there there_fits i)))
