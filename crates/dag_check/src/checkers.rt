@@ -176,7 +176,7 @@ impl Checker {
         } = self;
         let root = graph.verdict()?;
         border(all_sums.border_found)?;
-        // WAIT base.gather();
+        base.gather();
         Ok(Mesh::with(index, graph, root, base.open_edges()))
     }
 }
