@@ -9,5 +9,5 @@ mod keys;
 #[cfg(test)]
 mod tests;
 
-pub use adding::{add_border, add_triangles};
+pub use adding::{add_body, add_border, add_triangles};
 pub use borders::Border;

@@ -1,3 +1,3 @@
 pub mod LineLemmas
 pub mod FrameLemmas
-pub mod LineEndLemmas
+pub mod PointTextLemmas

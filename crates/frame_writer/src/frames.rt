@@ -106,7 +106,7 @@ fn write_frame(
     write_numbers(alloc, "cut", cut, out)?;
     write_tries(alloc, tries, out)?;
     write_numbers(alloc, "patches", patches, out)?;
-    write_bodies(bodies, out)
+    write_bodies(alloc, bodies, out)
 }
 
 /// Appends the frame's text. Its open edges are counted in the sums of its triangles' edges. A call that is

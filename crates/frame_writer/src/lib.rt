@@ -4,13 +4,13 @@
 #![tactic(auto)]
 
 mod bodies;
+mod body_lines;
 mod faults;
 mod frames;
-mod line_ends;
 mod lines;
 mod parts;
+mod point_texts;
 mod refused;
-mod triangles;
 mod words;
 mod writing;
 

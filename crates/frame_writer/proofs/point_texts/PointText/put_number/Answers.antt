@@ -1,6 +1,6 @@
 use Rattle.std.proofs.Common.{length, ap, arith, length-drop}
-use Rattle.frame_writer.proofs.LineEndLemmas.{length-decimal_short, length-digits_before}
-use Rattle.frame_writer.proofs.line_ends.LineEnd.put_number.Goals as goal
+use Rattle.frame_writer.proofs.PointTextLemmas.{length-decimal_short, length-digits_before}
+use Rattle.frame_writer.proofs.point_texts.PointText.put_number.Goals as goal
 
 pub write_digits-self-inside-requires : goal.write_digits-self-inside-requires
 write_digits-self-inside-requires c =
