@@ -158,9 +158,9 @@ module _ {K : Type 0} (R : K → K → Ordering) where
       weights = omega (arith, weight-nil K);
     }
 
-    pub gathers_step : (sums after whole : List (K × ℤ)) (kept at front next : ℕ) (e : K × ℤ) (both : ℤ) → at < length sums → get_or sums at e ≡ e → front ≤ at → Gathers R (take kept sums) (drop at sums) whole → Meets R (take kept sums) e (take front sums) both → take next after ≡ take front sums ++ alone (e.0, both) → drop (front + 1) after ≡ drop (front + 1) sums → Gathers R (take next after) (drop (at + 1) after) whole
-    gathers_step sums after whole kept at front next e both within is low h meets kept_is rest_is =
-        let left : drop at sums ≡ e ∷ drop (at + 1) sums = drop_more sums at e within ∙ ap (λ (x : K × ℤ). x ∷ drop (at + 1) sums) is in
+    pub gathers_step : (sums after whole : List (K × ℤ)) (kept at front next : ℕ) (d e : K × ℤ) (both : ℤ) → at < length sums → get_or sums at d ≡ e → front ≤ at → Gathers R (take kept sums) (drop at sums) whole → Meets R (take kept sums) e (take front sums) both → take next after ≡ take front sums ++ alone (e.0, both) → drop (front + 1) after ≡ drop (front + 1) sums → Gathers R (take next after) (drop (at + 1) after) whole
+    gathers_step sums after whole kept at front next d e both within is low h meets kept_is rest_is =
+        let left : drop at sums ≡ e ∷ drop (at + 1) sums = drop_more sums at d within ∙ ap (λ (x : K × ℤ). x ∷ drop (at + 1) sums) is in
         let far : (front + 1) + (at - front) ≡ at + 1 = omega arith in
         let same : drop (at + 1) after ≡ drop (at + 1) sums =
             ap (λ n. drop n after) (sym far) ∙ sym (drop-drop (at - front) (front + 1) after) ∙ ap (λ (xs : List (K × ℤ)). drop (at - front) xs) rest_is
@@ -171,10 +171,9 @@ module _ {K : Type 0} (R : K → K → Ordering) where
         (subst (λ (es : List (K × ℤ)). Gathers R es (drop (at + 1) sums) whole) (sym kept_is) more)
 
     -- a kept list and the next entry weigh no more than the whole
-    pub gathers_small : (sums whole : List (K × ℤ)) (kept at : ℕ) (e : K × ℤ) → at < length sums → get_or sums at e ≡ e → Gathers R (take kept sums) (drop at sums) whole → weight (take kept sums) + unsigned_abs e.1 ≤ weight whole
-    gathers_small sums whole kept at e within is h =
-        let left : drop at sums ≡ e ∷ drop (at + 1) sums = drop_more sums at e within ∙ ap (λ (x : K × ℤ). x ∷ drop (at + 1) sums) is in
-        omega (arith, h.weights, ap (λ (es : List (K × ℤ)). weight es) left, weight-cons e (drop (at + 1) sums))
+    pub gathers_small : (sums whole : List (K × ℤ)) (kept at : ℕ) (d : K × ℤ) → at < length sums → Gathers R (take kept sums) (drop at sums) whole → weight (take kept sums) + unsigned_abs (get_or sums at d).1 ≤ weight whole
+    gathers_small sums whole kept at d within h =
+        omega (arith, h.weights, ap (λ (es : List (K × ℤ)). weight es) (drop_more sums at d within), weight-cons (get_or sums at d) (drop (at + 1) sums))
 
     -- sorted sums that were gathered are gathered sums
     pub gathered_from_sorted : (whole sorted kept : List (K × ℤ)) → IsPermutation whole sorted → Gathers R kept [] sorted → Gathered R whole kept
