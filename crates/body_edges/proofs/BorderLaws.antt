@@ -152,9 +152,10 @@ border_is lists left h =
     }
 
 -- one edge of the keys more
-pub edges_more : (points : List Point) (keys : List ℕ) (i : ℕ) (from to : Point) (f t : ℕ) → i < length keys → f ≡ from_of (get_or keys i 0) → t ≡ to_of (get_or keys i 0) → slice_get points f ≡ Some from → slice_get points t ≡ Some to → map (edge_between points) (take i keys) ++ (record { from = from; to = to } ∷ []) ≡ map (edge_between points) (take (i + 1) keys)
+pub edges_more : (points : List Point) (keys : List ℕ) (i : ℕ) (before after : List BorderEdge) (edge : BorderEdge) (f t : ℕ) → i < length keys → before ≡ map (edge_between points) (take i keys) → after ≡ before ++ (edge ∷ []) → f ≡ from_of (get_or keys i 0) → t ≡ to_of (get_or keys i 0) → slice_get points f ≡ Some edge.from → slice_get points t ≡ Some edge.to → after ≡ map (edge_between points) (take (i + 1) keys)
 unfolding edge_between point_at_place
-edges_more points keys i from to f t within e d there here =
-    let first : from ≡ point_at_place points (from_of (get_or keys i 0)) = sym (ap (λ (n : ℕ). unwrap_or (slice_get points n) origin_point) (sym e) ∙ ap (λ (o : Option Point). unwrap_or o origin_point) there) in
-    let second : to ≡ point_at_place points (to_of (get_or keys i 0)) = sym (ap (λ (n : ℕ). unwrap_or (slice_get points n) origin_point) (sym d) ∙ ap (λ (o : Option Point). unwrap_or o origin_point) here) in
-    map-take_one (edge_between points) keys i 0 (record { from = from; to = to }) within (λ k. record { from = first k; to = second k })
+edges_more points keys i before after edge f t within so_far grown e d there here =
+    let from : edge.from ≡ point_at_place points (from_of (get_or keys i 0)) = sym (ap (λ (n : ℕ). unwrap_or (slice_get points n) origin_point) (sym e) ∙ ap (λ (o : Option Point). unwrap_or o origin_point) there) in
+    let to : edge.to ≡ point_at_place points (to_of (get_or keys i 0)) = sym (ap (λ (n : ℕ). unwrap_or (slice_get points n) origin_point) (sym d) ∙ ap (λ (o : Option Point). unwrap_or o origin_point) here) in
+    grown ∙ ap (λ (edges : List BorderEdge). edges ++ (edge ∷ [])) so_far
+    ∙ map-take_one (edge_between points) keys i 0 edge within (λ k. record { from = from k; to = to k })

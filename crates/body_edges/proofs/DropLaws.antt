@@ -21,11 +21,11 @@ drops_none keys = record { within = omega arith; as_many = refl; net = same_net_
 pub drops_kept : (kept place : ℕ) (now before : List ℕ) (key : ℕ) → place < length now → key ≡ get_or now place key → Drops kept place now before → Drops (kept + 1) (place + 1) (set now kept key) before
 drops_kept kept place now before key low e h =
     let same : take (kept + 1) (set now kept key) ++ drop (place + 1) (set now kept key) ≡ take kept now ++ drop place now =
-        ap (λ (front : List ℕ). front ++ drop (place + 1) (set now kept key)) (take_more_set now kept key (omega (arith, h.within)))
-        ∙ ap (λ (back : List ℕ). (take kept now ++ key ∷ []) ++ back) (drop-set-lt (place + 1) now kept key (omega (arith, h.within)))
-        ∙ append_assoc (take kept now) (key ∷ []) (drop (place + 1) now)
-        ∙ ap (λ (k : ℕ). take kept now ++ k ∷ drop (place + 1) now) e
-        ∙ ap (λ (back : List ℕ). take kept now ++ back) (sym (drop_one now place key low)) in
+    ap (λ (front : List ℕ). front ++ drop (place + 1) (set now kept key)) (take_more_set now kept key (omega (arith, h.within)))
+    ∙ ap (λ (back : List ℕ). (take kept now ++ key ∷ []) ++ back) (drop-set-lt (place + 1) now kept key (omega (arith, h.within)))
+    ∙ append_assoc (take kept now) (key ∷ []) (drop (place + 1) now)
+    ∙ ap (λ (k : ℕ). take kept now ++ k ∷ drop (place + 1) now) e
+    ∙ ap (λ (back : List ℕ). take kept now ++ back) (sym (drop_one now place key low)) in
     record {
       within = omega (arith, h.within);
       as_many = length-set now kept key ∙ h.as_many;
@@ -39,10 +39,10 @@ drops_both kept place now before key last low some e d opposite h =
     let less : ℕ = kept - 1 in
     let more : kept ≡ less + 1 = omega arith in
     let front : take kept now ≡ take less now ++ last ∷ [] =
-        ap (λ (n : ℕ). take n now) more ∙ take_more now less last (omega (arith, h.within)) ∙ ap (λ (k : ℕ). take less now ++ k ∷ []) (sym d) in
+    ap (λ (n : ℕ). take n now) more ∙ take_more now less last (omega (arith, h.within)) ∙ ap (λ (k : ℕ). take less now ++ k ∷ []) (sym d) in
     let back : drop place now ≡ key ∷ drop (place + 1) now = drop_one now place key low ∙ ap (λ (k : ℕ). k ∷ drop (place + 1) now) (sym e) in
     let same : take kept now ++ drop place now ≡ (take less now ++ last ∷ []) ++ key ∷ drop (place + 1) now =
-        ap (λ (keys : List ℕ). keys ++ drop place now) front ∙ ap (λ (keys : List ℕ). (take less now ++ last ∷ []) ++ keys) back in
+    ap (λ (keys : List ℕ). keys ++ drop place now) front ∙ ap (λ (keys : List ℕ). (take less now ++ last ∷ []) ++ keys) back in
     record {
       within = omega (arith, h.within);
       as_many = h.as_many;

@@ -50,8 +50,7 @@ pub opposite_ends : (first second : ℕ) → are_opposite first second ≡ true 
 unfolding from_of to_of
 opposite_ends first second h =
     let half : first / 2 ≡ second / 2 = grind (arith, nat_tests) in
-    let apart : first ≢ second = grind (arith, nat_tests) in
-    (
+    let apart : first ≢ second = grind (arith, nat_tests) in (
       ap (λ (n : ℕ). end_of n (eqb (first % 2) 0)) half ∙ ap (λ (low : Bool). end_of (second / 2) low) (other_rest first second half apart),
       ap (λ (n : ℕ). end_of n (eqb (second % 2) 0)) (sym half) ∙ ap (λ (low : Bool). end_of (first / 2) low) (other_rest second first (sym half) (λ e. apart (sym e))),
     )

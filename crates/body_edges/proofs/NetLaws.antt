@@ -63,9 +63,21 @@ same_net_dropped front back first second h = record {
       let ends = opposite_ends first second h in
       let there = opposite_times points first second a b ends in
       let here = opposite_times points first second b a ends in
-      omega (arith, there, here, keys_times-append points front back a b, keys_times-append points front back b a,
-      keys_times-append points (front ++ first ∷ []) (second ∷ back) a b, keys_times-append points (front ++ first ∷ []) (second ∷ back) b a,
-      keys_times-append points front (first ∷ []) a b, keys_times-append points front (first ∷ []) b a,
-      keys_times-cons points first [] a b, keys_times-cons points first [] b a, keys_times-nil points a b, keys_times-nil points b a,
-      keys_times-cons points second back a b, keys_times-cons points second back b a);
+      omega (
+        arith,
+        there,
+        here,
+        keys_times-append points front back a b,
+        keys_times-append points front back b a,
+        keys_times-append points (front ++ first ∷ []) (second ∷ back) a b,
+        keys_times-append points (front ++ first ∷ []) (second ∷ back) b a,
+        keys_times-append points front (first ∷ []) a b,
+        keys_times-append points front (first ∷ []) b a,
+        keys_times-cons points first [] a b,
+        keys_times-cons points first [] b a,
+        keys_times-nil points a b,
+        keys_times-nil points b a,
+        keys_times-cons points second back a b,
+        keys_times-cons points second back b a,
+      );
 }

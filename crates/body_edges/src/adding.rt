@@ -1,4 +1,4 @@
-//! Adding bodies to a chain.
+//! Adding the borders of bodies to a chain.
 
 ghost use Rattle.std.specs.Prelude.{◌≡◌, ◌+◌, ◌*◌, ◌≤◌, List, ◌++◌, length, OnOk};
 ghost use Rattle.grid_vertex.specs.declared.triangles.Triangle.{Triangle};
@@ -10,6 +10,21 @@ use crate::borders::Border;
 use edge_chain::EdgeChain;
 use grid_vertex::NoMemory;
 use patch_body::Body;
+
+/// Finds the border of a body, in place of the one before, and adds it as `add_border` does.
+/// Condition: at most 4294967295 * 65536 triangles were added before.
+pub fn add_body(chain: &mut EdgeChain, border: &mut Border, body: &Body) -> Result<(), NoMemory>
+    requires { chain.old.count ≤ 4294967295 * 65536 }
+    ensures count { OnOk result
+        (chain.new.count ≡ chain.old.count + length body.now.lists.corners) }
+    ensures few { OnOk result (chain.new.count ≤ chain.old.count + 4294967295) }
+    ensures nets { OnOk result
+        ((triangles : List Triangle) → IsNetOf triangles chain.old
+        → IsNetOf (triangles ++ triangles_of body.now.lists) chain.new) }
+{
+    border.find(body)?;
+    add_border(chain, border, body)
+}
 
 /// Adds the border of a body, which counts as all its triangles. On want of memory the chain is as before.
 /// Condition: the border is the body's, and at most 4294967295 * 65536 triangles were added before.
@@ -23,23 +38,5 @@ pub fn add_border(chain: &mut EdgeChain, border: &Border, body: &Body) -> Result
         ((triangles : List Triangle) → IsNetOf triangles chain.old
         → IsNetOf (triangles ++ triangles_of body.now.lists) chain.new) }
 {
-    let _edges = border.edges();
-    add_triangles(chain, body)
-}
-
-/// Adds the edges of a body's triangles. On want of memory part of the triangles may have been added.
-/// Condition: at most 4294967295 * 65536 triangles were added before.
-pub fn add_triangles(chain: &mut EdgeChain, body: &Body) -> Result<(), NoMemory>
-    requires { chain.old.count ≤ 4294967295 * 65536 }
-    ensures count { OnOk result
-        (chain.new.count ≡ chain.old.count + length body.now.lists.corners) }
-    ensures few { OnOk result (chain.new.count ≤ chain.old.count + 4294967295) }
-    ensures nets { OnOk result
-        ((triangles : List Triangle) → IsNetOf triangles chain.old
-        → IsNetOf (triangles ++ triangles_of body.now.lists) chain.new) }
-{
-    for place in 0..body.triangle_count() {
-        chain.add(body.triangle(place))?;
-    }
-    Ok(())
+    chain.add_edges(border.edges(), u64::from(body.triangle_count()))
 }

@@ -1,4 +1,4 @@
-//! The edges of bodies: a body's border is found and added to a chain.
+//! The borders of bodies: a body's border is found and added to a chain.
 //!
 //! `docs/MODEL.md` says what a chain's sums are for.
 #![tactic(auto)]
@@ -9,5 +9,5 @@ mod keys;
 #[cfg(test)]
 mod tests;
 
-pub use adding::{add_border, add_triangles};
+pub use adding::{add_body, add_border};
 pub use borders::Border;

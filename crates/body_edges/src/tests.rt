@@ -55,11 +55,11 @@ fn border_as_the_triangles(rt: HostRuntime) -> Result<(), Fail> {
     let alloc = rt.alloc();
     let square = Body::from_lists(alloc, 0, &CORNERS, &[[0, 1, 2], [0, 2, 3]])?;
     let mut border = Border::new(alloc);
-    border.find(&square)?;
     let mut by_border = EdgeChain::new(alloc);
-    add_border(&mut by_border, &border, &square)?;
+    add_body(&mut by_border, &mut border, &square)?;
     let mut by_triangles = EdgeChain::new(alloc);
-    add_triangles(&mut by_triangles, &square)?;
+    by_triangles.add(square.triangle(0))?;
+    by_triangles.add(square.triangle(1))?;
     assert_eq!(rt; (by_border.open_edges(), by_border.triangles()), (4, 2));
     assert!(rt; by_border.equals(&by_triangles));
     Ok(())

@@ -14,7 +14,8 @@ use std::alloc::Global;
 use std::marker::Model;
 
 /// A check of a patch file to which the bodies are given one after the other. It keeps no body: only
-/// sums of edges, of each inner node from its first body to its last one, and of the base.
+/// sums of edges, of each inner node from its first body to its last one, and of the base, and the
+/// border of the last body.
 #[derive(Drop)]
 pub struct Checker {
     alloc: Global,
@@ -176,7 +177,7 @@ impl Checker {
         } = self;
         let root = graph.verdict()?;
         border(all_sums.border_found)?;
-        // WAIT base.gather();
+        base.gather();
         Ok(Mesh::with(index, graph, root, base.open_edges()))
     }
 }

@@ -96,8 +96,8 @@ impl NodeSums {
         ensures dropped { self.new ≡ settled self.old }
         ensures compared { Compares self.old result }
     {
-        // WAIT self.incoming.gather();
-        // WAIT self.outgoing.gather();
+        self.incoming.gather();
+        self.outgoing.gather();
         let difference = self.incoming.first_difference(&self.outgoing);
         self.incoming = EdgeChain::new(alloc);
         self.outgoing = EdgeChain::new(alloc);

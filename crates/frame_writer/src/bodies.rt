@@ -12,22 +12,24 @@ ghost use Rattle.frame_writer.specs.Frames.{triangles_in};
 
 use crate::body_lines::{find_texts, write_lines};
 use crate::point_texts::PointText;
-use body_edges::add_triangles;
+use body_edges::{Border, add_body};
 use edge_chain::EdgeChain;
 use grid_vertex::NoMemory;
 use patch_file::Body;
 use std::alloc::Global;
 use std::sync::Arc;
 
-/// The sums of the edges of the bodies' triangles.
+/// The sums of the edges of the bodies' triangles, gathered.
 pub fn edges_of(alloc: Global, bodies: &[Arc<Body>]) -> Result<EdgeChain, NoMemory>
     requires { length bodies.now ≤ 65536 }
     ensures { IfOk result (λ chain. IsNetOf (triangles_in (map arc_value bodies.now)) chain) }
 {
     let mut chain = EdgeChain::new(alloc);
+    let mut border = Border::new(alloc);
     for body in bodies {
-        add_triangles(&mut chain, body)?;
+        add_body(&mut chain, &mut border, body)?;
     }
+    chain.gather();
     Ok(chain)
 }
 

@@ -18,17 +18,19 @@ ghost use Rattle.view_machine.specs.FrameSizes.{HasSize, ShowsSize};
 
 use crate::machines::Machine;
 use crate::sizes::FrameSize;
-use body_edges::add_triangles;
+use body_edges::{Border, add_body};
 use cache_chain::TierChain;
 use edge_chain::EdgeChain;
 use grid_vertex::NoMemory;
 use std::alloc::Global;
 use view_outside::Store;
 
-// Adds the triangles of the patch's body, which the top tier holds.
-fn add_body<S: Store>(
+// Adds the triangles of the patch's body, which the top tier holds. Its border takes the place of the one
+// that stood in `border`.
+fn add_patch<S: Store>(
     chain: &TierChain<S>,
     patch: u32,
+    border: &mut Border,
     edges: &mut EdgeChain,
 ) -> Result<(), NoMemory>
     requires top { IsAtTop chain.now.mesh.lists.index.fields chain.now.tiers patch }
@@ -39,12 +41,12 @@ fn add_body<S: Store>(
         → IsNetOf (triangles ++ triangles_of (top_body chain.now.tiers patch).lists) edges.new) }
 {
     match chain.top_body(patch) {
-        Some(body) => add_triangles(edges, body),
+        Some(body) => add_body(edges, border, body),
         None => unreachable!(),
     }
 }
 
-// The sums of the edges of patches that the top tier holds.
+// The sums of the edges of patches that the top tier holds, gathered.
 fn top_edges<S: Store>(
     alloc: Global,
     chain: &TierChain<S>,
@@ -55,9 +57,11 @@ fn top_edges<S: Store>(
     ensures { IfOk result (IsNetOf (triangles_in (map (top_body chain.now.tiers) patches.now))) }
 {
     let mut edges = EdgeChain::new(alloc);
+    let mut border = Border::new(alloc);
     for patch in patches {
-        add_body(chain, *patch, &mut edges)?;
+        add_patch(chain, *patch, &mut border, &mut edges)?;
     }
+    edges.gather();
     Ok(edges)
 }
 

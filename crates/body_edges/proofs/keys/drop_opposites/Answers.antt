@@ -1,6 +1,5 @@
 -- Each key is kept, or goes with the last one that was.
 use Rattle.std.proofs.Common.{◌≡◌, ◌∙◌, ℕ, List, sym, subst, rules}
-
 use Rattle.body_edges.proofs.DropLaws.{drops_kept, drops_both, IsLeft, drops_all}
 use Rattle.body_edges.proofs.keys.drop_opposites.Goals.{then-kept-gt0+then-is_opposite, else-kept-gt0}
 use Rattle.body_edges.proofs.keys.drop_opposites.Goals as goal

@@ -17,6 +17,6 @@ loop-body-preserved c =
     let body = c.deref.ensures ∙ ap arc_value c.body-item.is in
     let joined = ap (λ b. triangles_in (map arc_value (take i bodies)) ++ triangles_of b.lists) body ∙ sym more in
     record {
-      few = omega (arith, c.in_ok-add_triangles.ensures.few, c.loop-body.invariant.few);
-      nets = subst (λ (ts : List Triangle). IsNetOf ts c.add_triangles.new.chain) joined (c.in_ok-add_triangles.ensures.nets _ c.loop-body.invariant.nets);
+      few = omega (arith, c.in_ok-add_body.ensures.few, c.loop-body.invariant.few);
+      nets = subst (λ (ts : List Triangle). IsNetOf ts c.add_body.new.chain) joined (c.in_ok-add_body.ensures.nets _ c.loop-body.invariant.nets);
     }

@@ -24,14 +24,14 @@ left_of body keys sorted left facts e moved is = record {
 pub push_edges-requires-clause-keys : goal.push_edges-requires-clause-keys
 push_edges-requires-clause-keys c =
     let left = left_of c.args.body.now c.push_keys.new.keys.items c.sort_unstable.new.self.items c.drop_opposites.new.keys.items c.patch-patch.ensures.facts c.in_ok-push_keys.ensures c.sort_unstable.ensures.permutation
-        (record { net = c.drop_opposites.ensures.net; few = c.drop_opposites.ensures.few; all = c.drop_opposites.ensures.all }) in
+    (record { net = c.drop_opposites.ensures.net; few = c.drop_opposites.ensures.few; all = c.drop_opposites.ensures.all }) in
     let all : All (IsKey _) c.drop_opposites.new.keys.items = are_keys c.args.body.now.lists c.drop_opposites.new.keys.items left in
     rw (c.deref.ensures.value) all
 
 pub returns : goal.returns
 returns c =
     let left = left_of c.args.body.now c.push_keys.new.keys.items c.sort_unstable.new.self.items c.drop_opposites.new.keys.items c.patch-patch.ensures.facts c.in_ok-push_keys.ensures c.sort_unstable.ensures.permutation
-        (record { net = c.drop_opposites.ensures.net; few = c.drop_opposites.ensures.few; all = c.drop_opposites.ensures.all }) in
+    (record { net = c.drop_opposites.ensures.net; few = c.drop_opposites.ensures.few; all = c.drop_opposites.ensures.all }) in
     let border : IsBorderOf (map (edge_between c.args.body.now.lists.points) c.drop_opposites.new.keys.items) c.args.body.now.lists = border_is c.args.body.now.lists c.drop_opposites.new.keys.items left in
     on_ok_weaker c.push_edges.result
     (λ e. subst (λ (edges : List BorderEdge). IsBorderOf edges c.args.body.now.lists) (sym (e ∙ ap (map (edge_between c.args.body.now.lists.points)) c.deref.ensures.value)) border)

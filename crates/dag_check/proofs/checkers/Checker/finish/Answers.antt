@@ -1,9 +1,12 @@
 -- The graph's verdict comes first, then the least node whose nets differ.
-use Rattle.std.proofs.Common.{◌∙◌, sym, subst, length, ◌≡◌}
+use Rattle.std.proofs.Common.{◌∙◌, sym, ap, subst, List, length, ◌≡◌}
+use Rattle.std.specs.Map.{keys_of}
 use Rattle.std.proofs.lemmas.Result.{err_from_is_err_and}
 use Rattle.mesh_model.specs.Accepted.{IsAccepted, IsMeshFault, triangles_out_of}
 use Rattle.mesh_model.specs.Meshes.{IsMesh}
-use Rattle.mesh_model.specs.Nets.{HasOpenPairs}
+use Rattle.grid_vertex.specs.declared.triangles.Triangle.{Triangle}
+use Rattle.edge_chain.specs.Chains.{Chain, IsNetOf}
+use Rattle.mesh_model.specs.Nets.{AreOpen, HasOpenPairs}
 use Rattle.dag_check.specs.Added.{file_with}
 use Rattle.dag_check.specs.AllNodeSums.{all_sums_of}
 use Rattle.dag_check.specs.Checkers.{CheckerSeen, Follows}
@@ -48,6 +51,8 @@ returns-clause-base c = λ bodies h.
     let seen : CheckerSeen = record { index = c.self.inside.index; graph = c.self.inside.graph; next = c.self.inside.next; base = c.self.inside.base; all_sums = all_sums_of c.self.inside.all_sums } in
     let same : seen ≡ c.args.self = c.self.view_is in
     let decided : Decided seen c.in_ok-root.root = record { is_checker = c.self.invariant; verdict = sym c.verdict.ensures ∙ c.in_ok-root.was; all = subst (λ (s : CheckerSeen). s.next ≡ length s.index.fields) (sym same) c.requires } in
+    let pairs : c.open_edges.result ≡ length c.self.inside.base.entries = c.open_edges.ensures.pairs ∙ ap (λ (chain : Chain). length chain.entries) c.gather.ensures in
+    let nets = subst (λ (chain : Chain). (triangles : List Triangle) → IsNetOf triangles chain → AreOpen triangles (keys_of chain.entries)) c.gather.ensures c.open_edges.ensures.nets in
     subst (λ (m : MeshSeen). HasOpenPairs (triangles_out_of (file_with c.args.self.index bodies) m.lists.root) m.base_open) (sym c.with.ensures)
     (subst (λ (s : CheckerSeen). HasOpenPairs (triangles_out_of (file_with s.index bodies) c.in_ok-root.root) c.open_edges.result) same
-    (base_pairs seen c.in_ok-root.root c.open_edges.result bodies decided c.open_edges.ensures.pairs c.open_edges.ensures.nets (subst (λ (s : CheckerSeen). Follows s bodies) (sym same) h)))
+    (base_pairs seen c.in_ok-root.root c.open_edges.result bodies decided pairs nets (subst (λ (s : CheckerSeen). Follows s bodies) (sym same) h)))

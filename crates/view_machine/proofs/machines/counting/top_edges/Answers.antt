@@ -10,6 +10,6 @@ pub loop-patch-preserved : goal.loop-patch-preserved
 loop-patch-preserved g c =
     let more = triangles_in-take_more (top_body c.args.chain.now.tiers) c.args.patches.now c.loop-patch.patch-index 0 c.loop-patch-test.true in
     record {
-      few = omega (arith, c.in_ok-add_body.ensures.few, c.loop-patch.invariant.few);
-      nets = subst (λ (ts : List Triangle). IsNetOf ts c.add_body.new.edges) (sym more) (c.in_ok-add_body.ensures.nets _ c.loop-patch.invariant.nets);
+      few = omega (arith, c.in_ok-add_patch.ensures.few, c.loop-patch.invariant.few);
+      nets = subst (λ (ts : List Triangle). IsNetOf ts c.add_patch.new.edges) (sym more) (c.in_ok-add_patch.ensures.nets _ c.loop-patch.invariant.nets);
     }
