@@ -1,16 +1,16 @@
 -- Sums by their places in a list.
-use Rattle.std.proofs.Common.{◌≡◌, ◌∙◌, sym, ap, subst, refl, ℕ, zero, suc, ◌+◌, ◌-◌, ◌<◌, ◌≤◌, ◌^◌, Bool, true, false, List, [], ◌∷◌, ◌++◌, length, take, drop, get_or, ℤ, pos, ◌+ℤ◌, arith}
-use Rattle.std.specs.Prelude.{Option, Some, None, unsigned_abs, FitsSigned, slice_get}
+use Rattle.std.proofs.Common.{◌≡◌, ◌∙◌, sym, ap, refl, ℕ, zero, suc, ◌+◌, ◌-◌, ◌<◌, ◌≤◌, ◌^◌, Bool, true, false, List, [], ◌∷◌, ◌++◌, length, take, drop, get_or, ℤ, ◌+ℤ◌, arith}
+use Rattle.std.specs.Prelude.{Some, unsigned_abs, slice_get}
 use Rattle.std.specs.declared.cmp.Ordering.{Ordering}
 use Rattle.std.specs.Ordering.{int_eq}
 use Rattle.std.proofs.lemmas.Bool.Decides.{Decides-int_eq}
-use Rattle.std.proofs.lemmas.Int.{ints, to_z-of_z, fits_signed_from_abs}
+use Rattle.std.proofs.lemmas.Int.{to_z-of_z, fits_signed_from_abs}
 use Rattle.std.proofs.lemmas.List.{take-append-drop, take_more, drop_more}
 use Rattle.std.proofs.lemmas.Option.{slice_get_within, get_or_from_slice_get}
 use mir.Syntax.{w64}
-use mir.Val.{SFits, to_z, of_z}
+use mir.Val.{to_z, of_z}
 use Rattle.edge_chain.specs.Totals.{weight, part, total}
-use Rattle.edge_chain.proofs.TotalLaws.{weight-nil, weight-cons, weight-append, total-append, total-one, total_small}
+use Rattle.edge_chain.proofs.TotalLaws.{weight-cons, weight-append, total-append, total-one, total_small}
 
 -- an integer less than 2^63 in size is read back as it is
 pub read_back : (z : ℤ) → unsigned_abs z < 2 ^ 63 → to_z w64 (of_z w64 z) ≡ z
@@ -38,9 +38,6 @@ module _ {K : Type 0} where
   last_is es k d some_there within =
       let back : (k - 1) + 1 ≡ k = omega arith in
       ap (λ n. take n es) (sym back) ∙ take_more es (k - 1) d (omega arith)
-
-  pub next_is : (es : List (K × ℤ)) (k : ℕ) (e : K × ℤ) → slice_get es k ≡ Some e → drop k es ≡ e ∷ drop (k + 1) es
-  next_is es k e h = drop_more es k e (slice_get_within es k e h) ∙ ap (λ (x : K × ℤ). x ∷ drop (k + 1) es) (get_or_from_slice_get es k e e h)
 
   pub none_left : (es : List (K × ℤ)) (k : ℕ) → length es ≤ k → drop k es ≡ []
   none_left [] zero h = refl

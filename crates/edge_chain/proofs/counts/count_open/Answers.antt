@@ -1,4 +1,4 @@
-use Rattle.std.proofs.Common.{◌≡◌, sym, ap, length, List, ℤ}
+use Rattle.std.proofs.Common.{sym, ap, length, List, ℤ}
 use Rattle.edge_chain.specs.declared.edges.Edge.{Edge}
 use Rattle.edge_chain.specs.Edges.{edge_cmp, edge_cmp_total, edge_cmp_exact}
 use Rattle.edge_chain.proofs.TotalLaws.{normal_itself}

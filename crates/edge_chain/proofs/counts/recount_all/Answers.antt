@@ -1,6 +1,5 @@
 -- Each sum changes the count by what it does to the total of its edge.
-use Rattle.std.proofs.Common.{◌≡◌, ◌∙◌, sym, ap, subst, refl, ℕ, ◌+◌, ◌<◌, ◌≤◌, ◌^◌, arith, length, take, get_or, List, [], ◌∷◌, ◌++◌, ℤ, ◌+ℤ◌}
-use Rattle.std.specs.Prelude.{unsigned_abs}
+use Rattle.std.proofs.Common.{◌≡◌, sym, ap, ℕ, ◌+◌, ◌<◌, ◌≤◌, ◌^◌, arith, length, take, get_or, List, ℤ}
 use Rattle.std.proofs.lemmas.List.{take_more, length-take}
 use mir.Syntax.{w64}
 use mir.Val.{to_z, of_z}

@@ -38,12 +38,12 @@ meet-front-requires-clause-small c = read_small c.loop-at.sums c.args.sums.now c
 
 pub loop-at-preserved : goal.loop-at-preserved
 loop-at-preserved c =
-  let both : ℤ = c.meet-front.result.1 in
-  let fits : SFits w64 both = search rules in
-  record {
-  front = omega (arith, c.place-kept.ensures.next, c.meet-front.ensures.front);
-  gathers =
-      step c.loop-at.sums c.args.sums.now c.loop-at.kept c.loop-at.at _ (omega arith) c.requires.small c.loop-at.invariant.gathers
-      c.place-kept.new.sums c.meet-front.result.0 c.place-kept.result c.meet-front.result.1 (omega arith) c.meet-front.ensures.both
-      (c.place-kept.ensures.kept ∙ ap (λ (z : ℤ). take c.meet-front.result.0 c.loop-at.sums ++ alone ((get_or c.loop-at.sums c.loop-at.at _).0, z)) (to_z-of_z w64 both fits)) c.place-kept.ensures.rest;
-}
+    let both : ℤ = c.meet-front.result.1 in
+    let fits : SFits w64 both = search rules in
+    record {
+      front = omega (arith, c.place-kept.ensures.next, c.meet-front.ensures.front);
+      gathers =
+          step c.loop-at.sums c.args.sums.now c.loop-at.kept c.loop-at.at _ (omega arith) c.requires.small c.loop-at.invariant.gathers
+          c.place-kept.new.sums c.meet-front.result.0 c.place-kept.result c.meet-front.result.1 (omega arith) c.meet-front.ensures.both
+          (c.place-kept.ensures.kept ∙ ap (λ (z : ℤ). take c.meet-front.result.0 c.loop-at.sums ++ alone ((get_or c.loop-at.sums c.loop-at.at _).0, z)) (to_z-of_z w64 both fits)) c.place-kept.ensures.rest;
+    }

@@ -3,7 +3,7 @@ use Rattle.std.proofs.Common.{◌≡◌, ◌∙◌, sym, subst, ℕ, ◌<◌, �
 use Rattle.std.proofs.lemmas.List.{take-append-le, take-take}
 use Rattle.edge_chain.specs.declared.edges.Edge.{Edge}
 use Rattle.edge_chain.specs.Edges.{edge_cmp, edge_cmp_total, edge_cmp_exact}
-use Rattle.edge_chain.specs.Gathers.{Gathers, Gathered}
+use Rattle.edge_chain.specs.Gathers.{Gathers}
 use Rattle.edge_chain.specs.Totals.{weight}
 use Rattle.edge_chain.proofs.TotalLaws.{weight-permutation}
 use Rattle.edge_chain.proofs.GatherLaws.{rises_from_sort, gathered_from_sorted}
@@ -25,6 +25,6 @@ gather_sorted-kept-requires-clause-rises c =
 pub returns : goal.returns
 returns c =
     let kept : c.truncate.new.self.items ≡ take c.gather_sorted-kept.result c.gather_sorted-kept.new.sums =
-        c.truncate.ensures.items ∙ front_of_written c.gather_sorted-kept.result _ c.gather_sorted-kept.new.sums _ c.gather_sorted-kept.ensures.within (omega (arith, c.gather_sorted-kept.ensures.within)) in
+    c.truncate.ensures.items ∙ front_of_written c.gather_sorted-kept.result _ c.gather_sorted-kept.new.sums _ c.gather_sorted-kept.ensures.within (omega (arith, c.gather_sorted-kept.ensures.within)) in
     let sorted : Gathers edge_cmp (take c.gather_sorted-kept.result c.gather_sorted-kept.new.sums) [] c.sort_unstable.new.self.items = rw c.deref_mut.ensures.value at c.gather_sorted-kept.ensures.gathered in
     rw kept (gathered_from_sorted edge_cmp edge_cmp_total edge_cmp_exact c.args.sums.now.items c.sort_unstable.new.self.items _ c.sort_unstable.ensures.permutation sorted)

@@ -1,13 +1,11 @@
 -- A difference that comes before the best so far.
-use Rattle.std.proofs.Common.{◌≡◌, ◌∙◌, sym, ap, subst, refl, ◌<◌, ◌^◌, arith, false, List, ℤ}
-use Rattle.std.specs.Prelude.{Option, Some, unsigned_abs}
+use Rattle.std.proofs.Common.{◌≡◌, ◌∙◌, sym, ap, refl, false, List, ℤ}
+use Rattle.std.specs.Prelude.{Option, Some}
 use Rattle.std.specs.Ordering.{int_eq}
-use mir.Syntax.{w64}
-use mir.Val.{to_z, of_z}
 use Rattle.edge_chain.specs.declared.edges.Edge.{Edge}
 use Rattle.edge_chain.specs.declared.differences.Difference.{Difference}
 use Rattle.edge_chain.specs.Edges.{edge_cmp}
-use Rattle.edge_chain.specs.Totals.{weight, total}
+use Rattle.edge_chain.specs.Totals.{total}
 use Rattle.edge_chain.specs.Differences.{difference_at}
 use Rattle.edge_chain.specs.Scans.{is_late, better}
 use Rattle.edge_chain.proofs.PlaceLaws.{not_equal, total_back}

@@ -1,4 +1,4 @@
-use Rattle.std.proofs.Common.{◌≡◌, ◌∙◌, sym, ap, subst, List, ℤ}
+use Rattle.std.proofs.Common.{◌≡◌, List, ℤ}
 use Rattle.std.specs.Prelude.{Option, None}
 use Rattle.std.specs.List.{fold}
 use Rattle.edge_chain.specs.declared.edges.Edge.{Edge}

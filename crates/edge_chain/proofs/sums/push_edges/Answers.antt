@@ -4,7 +4,6 @@ use Rattle.std.specs.declared.cmp.Ordering.{Ordering}
 use Rattle.std.specs.declared.cmp.Ordering.TheVariants.{Less, Equal, Greater}
 use Rattle.std.specs.Ordering.{is_eq, is_ne}
 use Rattle.std.proofs.lemmas.List.{append-nil, flat_map_more, take_more}
-use Rattle.grid_vertex.specs.Points.{is_same_point}
 use Rattle.edge_chain.specs.declared.edges.Edge.{Edge}
 use Rattle.edge_chain.specs.declared.edges.BorderEdge.{BorderEdge}
 use Rattle.edge_chain.specs.Edges.{side_of}
@@ -48,14 +47,14 @@ loop-edge-preserved c =
     let so_far = c.loop-edge.invariant.items in
     let within = c.loop-edge-test.true in
     elim c.if-is_ne.branch [
-      then-is_ne w ↦ record {
+      | then-is_ne w ↦ record {
         items =
             pushed c.args.sums.now.items c.loop-edge.sums.items c.if-is_ne.sums.items c.args.edges.now c.loop-edge.edge-index _ within so_far
             (ap is_ne (sym c.cmp.ensures) ∙ sym c.is_ne.ensures ∙ w.if-is_ne.true)
             (ap (λ (v : Sums). v.items) w.sums-is ∙ w.push_reserved.ensures.items ∙ ap (λ (e : Edge × ℤ). c.loop-edge.sums.items ++ e ∷ []) w.side.ensures);
         room = rw w.sums-is (omega (arith, w.push_reserved.ensures.len, w.push_reserved.ensures.capacity, c.loop-edge.invariant.room));
       }
-    | else-is_ne w ↦ record {
+      | else-is_ne w ↦ record {
         items =
             skipped c.args.sums.now.items c.loop-edge.sums.items c.if-is_ne.sums.items c.args.edges.now c.loop-edge.edge-index _ within so_far
             (ap is_ne (sym c.cmp.ensures) ∙ sym c.is_ne.ensures ∙ w.if-is_ne.false)

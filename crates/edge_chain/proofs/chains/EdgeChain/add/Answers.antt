@@ -1,5 +1,5 @@
 -- A triangle's sides are its border.
-use Rattle.std.proofs.Common.{◌≡◌, ◌∙◌, ap, subst, List, [], ◌∷◌, ℤ, ◌+ℤ◌}
+use Rattle.std.proofs.Common.{◌≡◌, ◌∙◌, ap, subst, List, ℤ, ◌+ℤ◌}
 use Rattle.std.specs.Prelude.{Result, Ok, Err, OnOk}
 use Rattle.grid_vertex.specs.declared.triangles.Triangle.{Triangle}
 use Rattle.edge_chain.specs.declared.edges.BorderEdge.{BorderEdge}

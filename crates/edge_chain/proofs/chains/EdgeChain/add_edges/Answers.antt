@@ -1,8 +1,8 @@
 -- What is pushed adds the edges' net.
-use Rattle.std.proofs.Common.{◌≡◌, ◌∙◌, sym, ap, subst, ◌+◌, ◌≤◌, ◌^◌, arith, false, List, ◌++◌, length, ℕ, ℤ}
+use Rattle.std.proofs.Common.{◌≡◌, ◌∙◌, sym, ap, subst, ◌+◌, ◌≤◌, ◌^◌, arith, false, List, ◌++◌, ℕ, ℤ}
 use Rattle.edge_chain.specs.declared.edges.Edge.{Edge}
-use Rattle.edge_chain.specs.Chains.{Chain, IsNetOf}
-use Rattle.edge_chain.specs.Borders.{AreBorder, AddsEdges}
+use Rattle.edge_chain.specs.Chains.{Chain}
+use Rattle.edge_chain.specs.Borders.{AddsEdges}
 use Rattle.edge_chain.specs.NetLaws.{IsNetOf-add_edges}
 use Rattle.edge_chain.specs.Sums.{sums_of, AreSums, chain_of}
 use Rattle.edge_chain.proofs.ViewLaws.{more_sums, adds_edges}
