@@ -6,7 +6,7 @@ use Rattle.grid_vertex.specs.declared.triangles.Triangle.{Triangle}
 use Rattle.ray_pick.specs.declared.vectors.Vector.{Vector}
 use Rattle.ray_pick.specs.Rays.{RaySeen, way, vector_of, determinant, IsHitAt, IsSmall, Misses}
 use Rattle.ray_pick.specs.Bounds.{IsShort}
-use Rattle.ray_pick.proofs.WideNumbers.{shown, size_within}
+use Rattle.ray_pick.proofs.WideNumbers.{shown, widely, size_within}
 use Rattle.ray_pick.specs.Meetings.{size_of, signed, above_of, below_of, is_hit, is_met}
 use Rattle.ray_pick.specs.HitLaws.{is_ray_met, ray_above, ray_below, hit_from_numbers, misses_from_numbers}
 
@@ -44,9 +44,6 @@ pub record Met (u v q d : Vector) (gain b c above below : ℤ) : Type 0 where
 
 short_within : (n x y z : ℕ) → n ≤ 35184372088832 * (x + y + z) → x ≤ 1024 → y ≤ 1024 → z ≤ 1024 → n ≤ 108086391056891904
 short_within n x y z h a b c = omega (arith, h, a, b, c)
-
-widely : (z : ℤ) → unsigned_abs z ≤ 108086391056891904 → unsigned_abs z ≤ 442721857769029238784
-widely z h = omega (arith, h)
 
 signed_is : (g d s h e : ℤ) → g ≡ h → d ≡ e → s ≡ signed g d → s ≡ signed h e
 signed_is g d s h e same alike is = is ∙ ap (λ (z : ℤ). signed z d) same ∙ ap (signed h) alike
