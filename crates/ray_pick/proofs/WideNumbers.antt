@@ -18,6 +18,9 @@ product_bound a b first second = rw (unsigned_abs-mul a b) (mul-le-mul first sec
 pub shown : (z : ℤ) → unsigned_abs z ≤ 442721857769029238784 → to_z w128 (of_z w128 z) ≡ z
 shown z within = to_z-of_z w128 z (fits_signed_from_abs w128 z (omega (arith, within)))
 
+pub widely : (z : ℤ) → unsigned_abs z ≤ 108086391056891904 → unsigned_abs z ≤ 442721857769029238784
+widely z h = omega (arith, h)
+
 -- a product of a minor and a coordinate
 pub wide_bound : (x y a b : ℤ) → x ≡ a → y ≡ b → unsigned_abs a ≤ 35184372088832 → unsigned_abs b ≤ 4194304 → unsigned_abs (to_z w128 (of_z w128 (to_z w128 (of_z w128 x) *ℤ to_z w128 (of_z w128 y)))) ≤ 35184372088832 * unsigned_abs b
 wide_bound x y a b xa yb first second =

@@ -32,8 +32,8 @@ stands_before (b ∷ bs) zero (suc j) body less there =
 stands_before (b ∷ bs) (suc i) (suc j) body less there =
     omega (arith, stands_before bs i j body (omega arith) there, length-append (triangles_of b.lists) (triangles_in (take i bs)), length-append (triangles_of b.lists) (triangles_in (take j bs)))
 
--- the same numbers of a hit
-abbrev hit_with : ℕ → ℕ → ℕ → ℤ → ℤ → Hit
+-- a hit of these numbers
+abbrev pub hit_with : ℕ → ℕ → ℕ → ℤ → ℤ → Hit
 hit_with place patch triangle above below = record { place = place; patch = patch; triangle = triangle; above = above; below = below }
 
 same_hit : (h k : Hit) → h.place ≡ k.place → h.patch ≡ k.patch → h.triangle ≡ k.triangle → h.above ≡ k.above → h.below ≡ k.below → h ≡ k
