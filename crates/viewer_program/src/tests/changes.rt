@@ -13,6 +13,7 @@ const FAN: [&str; 8] = ["full", "Q", "2", "2", "104", "100", "9", "100"];
 const CULLED: [&str; 12] = [
     "cull", "Q", "2", "2", "104", "100", "9", "100", "1", "0", "0", "6",
 ];
+
 const PICKED: [&str; 14] = [
     "pick", "Q", "2", "2", "104", "100", "9", "100", "1", "2", "10", "0", "0", "-1",
 ];
@@ -69,6 +70,9 @@ fn a_body_outside_the_frame_changes(rt: HostRuntime) -> Result<(), Fail> {
     let (status, written) = end_of(alloc, &["check", "Q"], &square(), &[148, 220])?;
     assert_eq!(rt; (status, written.as_str()), (Status::Ok, SQUARE_ACCEPTED));
     let sides = ["sides", "Q", "1", "0", "0", "6"];
-    assert_eq!(rt; end_of(alloc, &sides, &square(), &[148, 220])?.0, Status::Ok);
+    assert_eq!(rt;
+        end_of(alloc, &sides, &square(), &[148, 220])?.0,
+        Status::Ok
+    );
     Ok(())
 }

@@ -4,6 +4,7 @@ use super::*;
 
 // The views that show the fan of the square, and its base.
 const FAN: [&str; 6] = ["2", "2", "104", "100", "9", "100"];
+
 const BASE: [&str; 6] = ["2", "2", "104", "100", "10", "100"];
 
 // The status of `pick` over a file Q of these bytes, and what was written.
@@ -52,14 +53,16 @@ fn hits_of_the_square(rt: HostRuntime) -> Result<(), Fail> {
 #[test]
 fn misses_of_the_square(rt: HostRuntime) -> Result<(), Fail> {
     let alloc = rt.alloc();
-    assert!(rt; all_give(
-        alloc,
-        &[
-            (["5", "2", "10", "0", "0", "-1"], "miss\n"),
-            (["1", "2", "10", "0", "0", "1"], "miss\n"),
-            (["-4", "2", "0", "1", "0", "0"], "miss\n"),
-        ],
-    )?);
+    assert!(rt;
+        all_give(
+            alloc,
+            &[
+                (["5", "2", "10", "0", "0", "-1"], "miss\n"),
+                (["1", "2", "10", "0", "0", "1"], "miss\n"),
+                (["-4", "2", "0", "1", "0", "0"], "miss\n"),
+            ],
+        )?
+    );
     Ok(())
 }
 
@@ -111,7 +114,10 @@ fn words_out_of_range(rt: HostRuntime) -> Result<(), Fail> {
         (FAN, ["1", "2", "10", "1025", "0", "-1"]),
         (FAN, ["1", "2", "10", "0", "0", "-1025"]),
         (FAN, ["1", "2", "10", "0", "-0", "-1"]),
-        (["2", "2", "104", "0", "9", "100"], ["1", "2", "10", "0", "0", "-1"]),
+        (
+            ["2", "2", "104", "0", "9", "100"],
+            ["1", "2", "10", "0", "0", "-1"],
+        ),
     ] {
         let (status, written) = pick(alloc, &square(), view, ray)?;
         assert_eq!(rt; (status, written.as_str()), (Status::Usage, ""));
