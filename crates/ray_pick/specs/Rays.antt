@@ -77,4 +77,4 @@ Misses ray t = (above below : ℤ) → IsHitAt ray t above below → ⊥
 -- how far from 0 the two numbers of a fraction are at most
 pub record IsSmall (above below : ℤ) : Type 0 where
   pub above_within : unsigned_abs above ≤ 442721857769029238784
-  pub below_within : unsigned_abs below ≤ 216172782113783808
+  pub below_within : unsigned_abs below ≤ 108086391056891904

@@ -10,17 +10,21 @@ ghost use Rattle.ray_pick.specs.declared.picks.Hit.{Hit};
 ghost use Rattle.ray_pick.specs.Rays.{RaySeen, IsHitAt};
 ghost use Rattle.ray_pick.specs.Picks.{IsPicked};
 
+mod crossings;
 mod picks;
 mod rays;
 mod vectors;
 
+pub use crossings::hit_triangle;
 pub use picks::{Hit, pick};
-pub use rays::{FARTHEST, LONGEST, Ray, hit_triangle};
+pub use rays::{FARTHEST, LONGEST, Ray};
 
 /// A triangle is hit at one fraction.
 pub fn a_triangle_is_hit_once()
-    ensures above { (ray : RaySeen) (t : Triangle) (a b c d : ℤ) → IsHitAt ray t a b → IsHitAt ray t c d → a ≡ c }
-    ensures below { (ray : RaySeen) (t : Triangle) (a b c d : ℤ) → IsHitAt ray t a b → IsHitAt ray t c d → b ≡ d }
+    ensures above { (ray : RaySeen) (t : Triangle) (a b c d : ℤ)
+        → IsHitAt ray t a b → IsHitAt ray t c d → a ≡ c }
+    ensures below { (ray : RaySeen) (t : Triangle) (a b c d : ℤ)
+        → IsHitAt ray t a b → IsHitAt ray t c d → b ≡ d }
 {}
 
 /// A ray has one pick of a frame's triangles.

@@ -1,11 +1,10 @@
-//! Rays, and where one meets a triangle.
+//! Rays.
 
-ghost use Rattle.std.specs.Prelude.{◌≡◌, ◌≤◌, Bool, ◌&&◌, IsTrue, MatchOption, IfSome};
-ghost use Rattle.grid_vertex.specs.Points.{is_within, is_point_within, is_in_grid};
-ghost use Rattle.patch_body.specs.Seen.{IsInGrid};
-ghost use Rattle.ray_pick.specs.Rays.{is_nought, ray_of, IsHitAt, Misses, IsSmall};
+ghost use Rattle.std.specs.Prelude.{◌≡◌};
+ghost use Rattle.grid_vertex.specs.Points.{is_within, is_point_within};
+ghost use Rattle.ray_pick.specs.Rays.{is_nought, ray_of};
 
-use grid_vertex::{Point, Triangle};
+use grid_vertex::Point;
 use std::marker::Model;
 
 /// How far from 0 a coordinate of an origin is at most.
@@ -17,8 +16,8 @@ pub const LONGEST: u32 = 1_024;
 /// A half-line from an origin on in a direction.
 #[derive(Clone, Copy, Debug, PartialEq, Eq)]
 pub struct Ray {
-    origin: Point,
-    direction: Point,
+    pub(crate) origin: Point,
+    pub(crate) direction: Point,
 }
 
 impl Model for Ray {
@@ -78,15 +77,4 @@ impl Ray {
         }
         Some(Ray { origin, direction })
     }
-}
-
-/// Where the ray meets the triangle: the numbers above and below of the fraction of its direction past its
-/// origin. None exactly where the triangle isn't hit. Condition: its corners are in the grid.
-pub fn hit_triangle(ray: &Ray, triangle: Triangle) -> Option<(i128, i128)>
-    requires { IsInGrid triangle }
-    ensures hit { MatchOption result (Misses ray.now triangle)
-        (λ at. IsHitAt ray.now triangle at.0 at.1) }
-    ensures small { IfSome result (λ at. IsSmall at.0 at.1) }
-{
-    None
 }

@@ -1,8 +1,9 @@
 //! Vectors, and the volumes that three of them span.
 
-ghost use Rattle.std.specs.Prelude.{◌≡◌, ◌≤◌, ◌-ℤ◌, ◌+ℤ◌, ◌*ℤ◌, unsigned_abs};
+ghost use Rattle.std.specs.Prelude.{◌≡◌, ◌+◌, ◌*◌, ◌≤◌, ◌-ℤ◌, ◌+ℤ◌, ◌*ℤ◌, unsigned_abs};
 ghost use Rattle.ray_pick.specs.Rays.{way, vector_of, determinant};
 ghost use Rattle.ray_pick.specs.Bounds.{IsShort, IsNear};
+ghost use Rattle.ray_pick.specs.Meetings.{size_of};
 
 use grid_vertex::Point;
 
@@ -79,4 +80,40 @@ fn minor(a: i64, b: i64, c: i64, d: i64) -> i64
     ensures bound { unsigned_abs result ≤ 35184372088832 }
 {
     difference(product(a, d), product(b, c))
+}
+
+// The product of a minor and a coordinate.
+fn wide_product(minor: i64, coordinate: i64) -> i128
+    requires minor { unsigned_abs minor ≤ 35184372088832 }
+    requires coordinate { unsigned_abs coordinate ≤ 4194304 }
+    ensures value { result ≡ minor *ℤ coordinate }
+    ensures bound { unsigned_abs result ≤ 35184372088832 * unsigned_abs coordinate }
+{
+    i128::from(minor) * i128::from(coordinate)
+}
+
+// The sum of two numbers that are far from the end of the type.
+fn sum(a: i128, b: i128) -> i128
+    requires first { unsigned_abs a ≤ 442721857769029238784 }
+    requires second { unsigned_abs b ≤ 442721857769029238784 }
+    ensures value { result ≡ a +ℤ b }
+    ensures bound { unsigned_abs result ≤ unsigned_abs a + unsigned_abs b }
+{
+    a + b
+}
+
+/// The product of r and the cross product of p and q.
+#[tactic(auto, unfolding(crate::specs::Rays::determinant))]
+pub(crate) fn determinant(p: Vector, q: Vector, r: Vector) -> i128
+    requires first { IsShort 4194304 p }
+    requires second { IsShort 4194304 q }
+    requires third { IsShort 4194304 r }
+    ensures value { result ≡ determinant p q r }
+    ensures bound { unsigned_abs result ≤ 35184372088832 * size_of r }
+{
+    let flat = sum(
+        wide_product(minor(p.y, p.z, q.y, q.z), r.x),
+        wide_product(minor(p.z, p.x, q.z, q.x), r.y),
+    );
+    sum(flat, wide_product(minor(p.x, p.y, q.x, q.y), r.z))
 }
