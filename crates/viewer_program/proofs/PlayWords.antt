@@ -18,6 +18,11 @@ use Rattle.viewer_program.specs.Strips.{columns_from, strip_command_in}
 abbrev no_seen : Option PlaySeen
 no_seen = None
 
+neither : (a b : Bool) → (if a then no_seen else if b then no_seen else no_seen) ≡ no_seen
+neither true b = refl
+neither false true = refl
+neither false false = refl
+
 abbrev no_known : Option Command
 no_known = None
 

@@ -23,6 +23,7 @@ fn failing_reads(rt: HostRuntime) -> Result<(), Fail> {
     let alloc = rt.alloc();
     for (words, calls) in [
         (&["check", "Q"][..], 6),
+        (&["sides", "Q", "1", "0", "0", "0"][..], 6),
         (&["base", "Q"][..], 7),
         (&["full", "Q", "2", "2", "104", "100", "9", "100"][..], 7),
     ] {

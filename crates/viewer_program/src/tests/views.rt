@@ -5,7 +5,7 @@ use super::*;
 const END_OF_CHAIN: &str =
     "frame 0 1 nodes 3 patches 1 triangles 2 open 4\ncut 0 1 2\ntries 1:1 2:1\npatches 2\n0 0 0 4 0 0 4 4 0\n0 0 0 4 4 0 0 4 0\n";
 
-const RIGHT_COLUMN: &str = "\
+pub(super) const RIGHT_COLUMN: &str = "\
 frame 0 1 nodes 2 patches 3 triangles 6 open 6
 cut 0 2
 tries 4:1 5:1
@@ -31,7 +31,7 @@ patches 1 2 3
 4 4 0 0 4 0 2 2 0
 ";
 
-const BOTH_COLUMNS: &str = "\
+pub(super) const BOTH_COLUMNS: &str = "\
 frame 0 1 nodes 4 patches 3 triangles 10 open 6
 cut 0 1 2 3
 tries 2:1 3:1 4:1 5:1 6:1
