@@ -1,12 +1,11 @@
 -- Sums by their places in a list.
 use Rattle.std.proofs.Common.{◌≡◌, ◌∙◌, sym, ap, refl, ℕ, zero, suc, ◌+◌, ◌-◌, ◌<◌, ◌≤◌, ◌^◌, Bool, true, false, List, [], ◌∷◌, ◌++◌, length, take, drop, get_or, ℤ, ◌+ℤ◌, arith}
-use Rattle.std.specs.Prelude.{Some, unsigned_abs, slice_get}
+use Rattle.std.specs.Prelude.{unsigned_abs}
 use Rattle.std.specs.declared.cmp.Ordering.{Ordering}
 use Rattle.std.specs.Ordering.{int_eq}
 use Rattle.std.proofs.lemmas.Bool.Decides.{Decides-int_eq}
 use Rattle.std.proofs.lemmas.Int.{to_z-of_z, fits_signed_from_abs}
-use Rattle.std.proofs.lemmas.List.{take-append-drop, take_more, drop_more}
-use Rattle.std.proofs.lemmas.Option.{slice_get_within, get_or_from_slice_get}
+use Rattle.std.proofs.lemmas.List.{take-append-drop, take_more}
 use mir.Syntax.{w64}
 use mir.Val.{to_z, of_z}
 use Rattle.edge_chain.specs.Totals.{weight, part, total}
