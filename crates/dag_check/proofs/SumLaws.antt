@@ -51,7 +51,7 @@ few_with_next all_sums h items v t same within here =
     let all : List NodeSums = all_sums.node_sums in
     let there : t ≡ get_or all v t = here ∙ ap (λ (ts : List NodeSums). get_or ts v t) same in
     let more : pairs_in_all (take (v + 1) all) ≡ pairs_in_all (take v all) + pairs_of t =
-        ap pairs_in_all (take_more all v t (omega (arith, ap length same))) ∙ sum_by_push pairs_of (take v all) (get_or all v t) ∙ ap (λ (x : NodeSums). pairs_in_all (take v all) + pairs_of x) (sym there) in
+    ap pairs_in_all (take_more all v t (omega (arith, ap length same))) ∙ sum_by_push pairs_of (take v all) (get_or all v t) ∙ ap (λ (x : NodeSums). pairs_in_all (take v all) + pairs_of x) (sym there) in
     omega (arith, more, sum_by-take-le pairs_of all (v + 1), few_in_all all_sums h)
 
 -- one term of a sum is replaced
