@@ -21,7 +21,7 @@ use Rattle.edge_chain.specs.Differences.{difference_at, difference_of, edge_at, 
 use Rattle.edge_chain.specs.Scans.{is_late, better}
 use Rattle.edge_chain.specs.Sums.{entries_of}
 use Rattle.edge_chain.proofs.TotalLaws.{total-nil, total-cons, at_total}
-use Rattle.edge_chain.proofs.ViewLaws.{AreForward, forward_at, held_entries, are_entries, same_entries}
+use Rattle.edge_chain.proofs.ViewLaws.{AreForward, held_entries, are_entries, same_entries}
 
 -- ---- of gathered lists
 

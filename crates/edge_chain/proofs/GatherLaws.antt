@@ -8,7 +8,6 @@ use Rattle.std.specs.Cmp.{IsTotalOrder, on_total, then_total, int_cmp_total}
 use Rattle.std.specs.List.{AllByRecursion}
 use Rattle.std.specs.List.Sorted.{IsSorted, IsPermutation}
 use Rattle.std.specs.Map.{keys_of}
-use Rattle.std.specs.BTreeMap.{is_at}
 use Rattle.std.proofs.lemmas.Bool.Decides.{Decides-int_eq}
 use Rattle.std.proofs.lemmas.Int.{ints}
 use Rattle.std.proofs.lemmas.List.{append-nil, drop_more, drop-drop}
@@ -17,7 +16,7 @@ use Rattle.std.proofs.lemmas.List.Sorted.{sorted_far, ranks_by}
 use Rattle.std.proofs.lemmas.Map.Keys.{sorted_head}
 use Rattle.std.proofs.lemmas.Map.Lookups.{CmpEqualImpliesEq}
 use Rattle.edge_chain.specs.Gaps.{IsTight, tight_tail, turned}
-use Rattle.edge_chain.specs.Totals.{weight, alone, part, total}
+use Rattle.edge_chain.specs.Totals.{weight, alone}
 use Rattle.edge_chain.specs.Gathers.{Rises, Meets, Gathers, Gathered}
 use Rattle.edge_chain.specs.Gathers.Meets.{Starts, Follows, Joins}
 use Rattle.edge_chain.proofs.TotalLaws.{weight-nil, weight-cons, weight-append, weight-one, weight-permutation, abs_add, total-nil, total-cons, total-one, total-append, total-permutation, total-unless, same_key, tight-nil, tight-cons}
@@ -158,23 +157,22 @@ module _ {K : Type 0} (R : K → K → Ordering) where
       weights = omega (arith, weight-nil K);
     }
 
-    pub gathers_step : (sums after whole : List (K × ℤ)) (kept at front next : ℕ) (e : K × ℤ) (both : ℤ) → at < length sums → get_or sums at e ≡ e → front ≤ at → Gathers R (take kept sums) (drop at sums) whole → Meets R (take kept sums) e (take front sums) both → take next after ≡ take front sums ++ alone (e.0, both) → drop (front + 1) after ≡ drop (front + 1) sums → Gathers R (take next after) (drop (at + 1) after) whole
-    gathers_step sums after whole kept at front next e both within is low h meets kept_is rest_is =
-        let left : drop at sums ≡ e ∷ drop (at + 1) sums = drop_more sums at e within ∙ ap (λ (x : K × ℤ). x ∷ drop (at + 1) sums) is in
+    pub gathers_step : (sums after whole : List (K × ℤ)) (kept at front next : ℕ) (d e : K × ℤ) (both : ℤ) → at < length sums → get_or sums at d ≡ e → front ≤ at → Gathers R (take kept sums) (drop at sums) whole → Meets R (take kept sums) e (take front sums) both → take next after ≡ take front sums ++ alone (e.0, both) → drop (front + 1) after ≡ drop (front + 1) sums → Gathers R (take next after) (drop (at + 1) after) whole
+    gathers_step sums after whole kept at front next d e both within is low h meets kept_is rest_is =
+        let left : drop at sums ≡ e ∷ drop (at + 1) sums = drop_more sums at d within ∙ ap (λ (x : K × ℤ). x ∷ drop (at + 1) sums) is in
         let far : (front + 1) + (at - front) ≡ at + 1 = omega arith in
         let same : drop (at + 1) after ≡ drop (at + 1) sums =
-            ap (λ n. drop n after) (sym far) ∙ sym (drop-drop (at - front) (front + 1) after) ∙ ap (λ (xs : List (K × ℤ)). drop (at - front) xs) rest_is
-            ∙ drop-drop (at - front) (front + 1) sums ∙ ap (λ n. drop n sums) far in
+        ap (λ n. drop n after) (sym far) ∙ sym (drop-drop (at - front) (front + 1) after) ∙ ap (λ (xs : List (K × ℤ)). drop (at - front) xs) rest_is
+        ∙ drop-drop (at - front) (front + 1) sums ∙ ap (λ n. drop n sums) far in
         let h' = subst (λ (rest : List (K × ℤ)). Gathers R (take kept sums) rest whole) left h in
         let more = gathers_more (take kept sums) (drop (at + 1) sums) whole (take front sums) e both h' meets in
         subst (λ (rest : List (K × ℤ)). Gathers R (take next after) rest whole) (sym same)
         (subst (λ (es : List (K × ℤ)). Gathers R es (drop (at + 1) sums) whole) (sym kept_is) more)
 
     -- a kept list and the next entry weigh no more than the whole
-    pub gathers_small : (sums whole : List (K × ℤ)) (kept at : ℕ) (e : K × ℤ) → at < length sums → get_or sums at e ≡ e → Gathers R (take kept sums) (drop at sums) whole → weight (take kept sums) + unsigned_abs e.1 ≤ weight whole
-    gathers_small sums whole kept at e within is h =
-        let left : drop at sums ≡ e ∷ drop (at + 1) sums = drop_more sums at e within ∙ ap (λ (x : K × ℤ). x ∷ drop (at + 1) sums) is in
-        omega (arith, h.weights, ap (λ (es : List (K × ℤ)). weight es) left, weight-cons e (drop (at + 1) sums))
+    pub gathers_small : (sums whole : List (K × ℤ)) (kept at : ℕ) (d : K × ℤ) → at < length sums → Gathers R (take kept sums) (drop at sums) whole → weight (take kept sums) + unsigned_abs (get_or sums at d).1 ≤ weight whole
+    gathers_small sums whole kept at d within h =
+        omega (arith, h.weights, ap (λ (es : List (K × ℤ)). weight es) (drop_more sums at d within), weight-cons (get_or sums at d) (drop (at + 1) sums))
 
     -- sorted sums that were gathered are gathered sums
     pub gathered_from_sorted : (whole sorted kept : List (K × ℤ)) → IsPermutation whole sorted → Gathers R kept [] sorted → Gathered R whole kept

@@ -3,7 +3,7 @@ use Rattle.std.proofs.Common.{◌≡◌, ◌≢◌, ◌∙◌, sym, ap, subst, r
 use Rattle.std.specs.Prelude.{Option, Some, None, MatchOption, unsigned_abs}
 use Rattle.std.specs.declared.cmp.Ordering.{Ordering}
 use Rattle.std.specs.declared.cmp.Ordering.TheVariants.{Less, Equal, Greater}
-use Rattle.std.specs.Ordering.{is_eq, is_lt, int_eq}
+use Rattle.std.specs.Ordering.{is_eq, int_eq}
 use Rattle.std.specs.Cmp.{IsTotalOrder}
 use Rattle.std.specs.List.{AllByRecursion, sum_by}
 use Rattle.std.specs.List.Sorted.{IsStrictlySortedBy, IsPermutation}
@@ -14,10 +14,10 @@ use Rattle.std.proofs.lemmas.Cmp.{tied_itself}
 use Rattle.std.proofs.lemmas.Int.{ints}
 use Rattle.std.proofs.lemmas.List.Sorted.{sum_by-IsPermutation}
 use Rattle.std.proofs.lemmas.List.Sums.{sum_by-append, sum_by-cons}
-use Rattle.std.proofs.lemmas.Map.Keys.{sorted_head, sorted_tail}
+use Rattle.std.proofs.lemmas.Map.Keys.{sorted_head}
 use Rattle.std.proofs.lemmas.Map.Lookups.{CmpEqualImpliesEq}
 use Rattle.edge_chain.specs.Gaps.{Gap, at_key, first_gap, IsGap, IsTight, gap_is, tight_tail, below_head, at_tie, past_head, turned}
-use Rattle.edge_chain.specs.Totals.{some, weight, unless_zero, alone, part, total, put_by, put, normal}
+use Rattle.edge_chain.specs.Totals.{some, weight, unless_zero, part, total, put_by, put, normal}
 
 -- ---- weights
 

@@ -1,6 +1,6 @@
 -- Lists of sums as the entries of a chain.
-use Rattle.std.proofs.Common.{◌≡◌, ◌≢◌, ◌∙◌, sym, ap, subst, refl, ℕ, ◌+◌, ◌*◌, ◌≤◌, ◌^◌, Bool, true, false, cond, List, [], ◌∷◌, ◌++◌, length, ℤ, pos, ◌+ℤ◌, arith}
-use Rattle.std.specs.Prelude.{Option, Some, unwrap_or, IsTrue, Contains, All, map}
+use Rattle.std.proofs.Common.{◌≡◌, ◌≢◌, ◌∙◌, sym, ap, refl, ℕ, ◌+◌, ◌*◌, ◌≤◌, ◌^◌, Bool, true, false, cond, List, [], ◌∷◌, ◌++◌, length, ℤ, pos, ◌+ℤ◌, arith}
+use Rattle.std.specs.Prelude.{Option, Some, unwrap_or, IsTrue, map}
 use Rattle.std.specs.declared.cmp.Ordering.{Ordering}
 use Rattle.std.specs.declared.cmp.Ordering.TheVariants.{Less, Equal, Greater}
 use Rattle.std.specs.Ordering.{is_eq, is_lt}
@@ -22,7 +22,7 @@ use Rattle.edge_chain.specs.Entries.{entry_at, held_is}
 use Rattle.edge_chain.specs.Edges.{edge_cmp, edge_cmp_total, edge_cmp_exact, pair_of, edge_of}
 use Rattle.edge_chain.specs.Gaps.{at_key, IsTight, tight_tail}
 use Rattle.edge_chain.specs.Gathers.{Gathered}
-use Rattle.edge_chain.specs.Totals.{weight, part, total, normal}
+use Rattle.edge_chain.specs.Totals.{part, total, normal}
 use Rattle.edge_chain.specs.Sums.{sums_of, AreSums, seen, entries_of, chain_of}
 use Rattle.edge_chain.proofs.TotalLaws.{weight-nil, weight-append, total-nil, total-cons, total-append, none_total, tied_behind, normal_tight, total-normal, at_normal, normal_same, normal-nil, tight-nil}
 use Rattle.edge_chain.proofs.EdgeLaws.{total_of_edges, none_backward, weight_of_edges}
@@ -86,7 +86,7 @@ are_entries sums h =
     let es = normal edge_cmp sums in
     let tight : IsTight edge_cmp es = normal_tight edge_cmp edge_cmp_total edge_cmp_exact sums in
     let known : AllByRecursion (λ e. IsTrue (is_forward (pair_of e.0))) es =
-        keys_known (λ q. IsTrue (is_forward (pair_of q))) es tight (λ q apart. forward_at sums h q (λ z. apart (total-normal edge_cmp edge_cmp_total edge_cmp_exact sums q ∙ z))) in
+    keys_known (λ q. IsTrue (is_forward (pair_of q))) es tight (λ q apart. forward_at sums h q (λ z. apart (total-normal edge_cmp edge_cmp_total edge_cmp_exact sums q ∙ z))) in
     let forward = All-map (λ (e : Pair × ℤ). IsTrue (is_forward e.0)) seen es (All-from_recursion (λ (e : Edge × ℤ). IsTrue (is_forward (pair_of e.0))) es known) in
     let not_zero' = All-map (λ (e : Pair × ℤ). e.1 ≢ pos 0) seen es (All-from_recursion (λ (e : Edge × ℤ). e.1 ≢ pos 0) es tight.not_zero) in
     record {

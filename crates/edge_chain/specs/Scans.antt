@@ -1,5 +1,5 @@
 -- A scan for the least difference of two lists of sums.
-use Rattle.std.specs.Prelude.{Bool, true, false, not, cond, List, ℤ, Option, Some, None}
+use Rattle.std.specs.Prelude.{Bool, false, not, cond, List, ℤ, Option, Some, None}
 use Rattle.std.specs.Ordering.{is_lt, int_eq}
 use Rattle.edge_chain.specs.declared.edges.Edge.{Edge}
 use Rattle.edge_chain.specs.declared.differences.Difference.{Difference}

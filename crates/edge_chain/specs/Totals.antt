@@ -1,5 +1,5 @@
 -- Lists of sums in which a key may stand more than once: what it has in all, and the tight list of that.
-use Rattle.std.specs.Prelude.{ℕ, Bool, cond, List, [], ◌∷◌, ℤ, pos, ◌+ℤ◌, unsigned_abs}
+use Rattle.std.specs.Prelude.{ℕ, cond, List, [], ◌∷◌, ℤ, pos, ◌+ℤ◌, unsigned_abs}
 use Rattle.std.specs.List.{sum_by}
 use Rattle.std.specs.declared.cmp.Ordering.{Ordering}
 use Rattle.std.specs.declared.cmp.Ordering.TheVariants.{Less, Equal, Greater}

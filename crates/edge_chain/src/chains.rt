@@ -18,6 +18,9 @@ use grid_vertex::{NoMemory, Triangle};
 use std::alloc::Global;
 use std::marker::Model;
 
+#[cfg(test)]
+mod tests;
+
 /// The sums of the edges of triangles, with sign, and the number of triangles.
 ///
 /// A pair of points, the lesser one first, has the number of edges from it to the other less the

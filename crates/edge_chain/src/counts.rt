@@ -43,5 +43,9 @@ pub fn count_open(sums: &[Sum], gathered: bool) -> usize
     requires tight { gathered ≡ true → IsTight edge_cmp sums.now }
     ensures { result ≡ length (normal edge_cmp sums.now) }
 {
-    if gathered { sums.len() } else { recount_all(sums) }
+    if gathered {
+        sums.len()
+    } else {
+        recount_all(sums)
+    }
 }

@@ -18,7 +18,11 @@ fn with_part(total: i64, edge: &Edge, other: &Edge, sum: i64) -> i64
     requires { FitsSigned w64 (total +ℤ part edge_cmp edge.now (other.now, sum)) }
     ensures { result ≡ total +ℤ part edge_cmp edge.now (other.now, sum) }
 {
-    if edge.cmp(other).is_eq() { total + sum } else { total }
+    if edge.cmp(other).is_eq() {
+        total + sum
+    } else {
+        total
+    }
 }
 
 /// What the edge's sums are together.
@@ -44,7 +48,12 @@ fn is_past(best: &Option<Difference>, edge: &Edge) -> bool
 }
 
 // The difference at the edge, where there is one and it comes before the best so far; else that.
-fn better_at(best: Option<Difference>, edge: &Edge, here: &[Sum], there: &[Sum]) -> Option<Difference>
+fn better_at(
+    best: Option<Difference>,
+    edge: &Edge,
+    here: &[Sum],
+    there: &[Sum],
+) -> Option<Difference>
     requires here { weight here.now < 2 ^ 63 }
     requires there { weight there.now < 2 ^ 63 }
     ensures { result ≡ better here.now there.now best edge.now }
@@ -61,7 +70,12 @@ fn better_at(best: Option<Difference>, edge: &Edge, here: &[Sum], there: &[Sum])
 }
 
 // The first difference at the edges of a list, or the best so far.
-fn scan_edges(best: Option<Difference>, edges: &[Sum], here: &[Sum], there: &[Sum]) -> Option<Difference>
+fn scan_edges(
+    best: Option<Difference>,
+    edges: &[Sum],
+    here: &[Sum],
+    there: &[Sum],
+) -> Option<Difference>
     requires here { weight here.now < 2 ^ 63 }
     requires there { weight there.now < 2 ^ 63 }
     ensures { result ≡ fold (λ b e. better here.now there.now b e.0) best edges.now }

@@ -62,3 +62,35 @@ fn border_of_a_square(rt: HostRuntime) -> Result<(), Fail> {
     assert_eq!(rt; halves.first_difference(&turned), Some(difference));
     Ok(())
 }
+
+#[test]
+fn edges_that_cancel(rt: HostRuntime) -> Result<(), Fail> {
+    let [sw, se, ne, _] = CORNERS;
+    let there = BorderEdge { from: sw, to: se };
+    let back = BorderEdge { from: se, to: sw };
+    let onward = BorderEdge { from: se, to: ne };
+    let still = BorderEdge { from: ne, to: ne };
+    let mut chain = EdgeChain::new(rt.alloc());
+    chain.add_edges(&[onward, there, there], 1)?;
+    chain.gather();
+    assert_eq!(rt; chain.open_edges(), 2);
+    assert!(rt; chain.triangles() < 4);
+    chain.add_edges(&[back, still], 1)?;
+    let none = EdgeChain::new(rt.alloc());
+    let left = Difference {
+        a: sw,
+        b: se,
+        here: 1,
+        there: 0,
+    };
+    assert_eq!(rt; chain.open_edges(), 2);
+    assert_eq!(rt; chain.first_difference(&none), Some(left));
+    chain.gather();
+    assert_eq!(rt; chain.open_edges(), 2);
+    assert_eq!(rt; chain.first_difference(&none), Some(left));
+    assert!(rt; chain.triangles() < 4);
+    chain.add_edges(&[back], 1)?;
+    assert_eq!(rt; chain.open_edges(), 1);
+    assert_eq!(rt; chain.triangles(), 3);
+    Ok(())
+}

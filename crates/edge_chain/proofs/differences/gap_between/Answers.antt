@@ -1,23 +1,19 @@
 -- One edge with two sums.
-use Rattle.std.proofs.Common.{rules, ◌≡◌, ◌∙◌, sym, ap, refl, ℤ, Bool, true, false}
+use Rattle.std.proofs.Common.{rules, ◌≡◌, ◌∙◌, sym, refl, ℤ, false}
 use Rattle.std.specs.Prelude.{Some, None, option_map}
 use Rattle.std.specs.declared.cmp.Ordering.{Ordering}
 use Rattle.std.specs.declared.cmp.Ordering.TheVariants.{Equal}
 use Rattle.std.specs.Ordering.{int_eq}
 use mir.Syntax.{w64}
-use mir.Val.{SFits, of_z}
+use mir.Val.{SFits}
 use Rattle.std.proofs.lemmas.Int.{to_z-of_z}
-use Rattle.std.proofs.lemmas.Bool.Decides.{Decides-int_eq}
 use Rattle.edge_chain.specs.declared.differences.Difference.{Difference}
 use Rattle.edge_chain.specs.declared.edges.Edge.{Edge}
 use Rattle.edge_chain.specs.Edges.{edge_cmp}
 use Rattle.edge_chain.specs.Gaps.{gap_by}
 use Rattle.edge_chain.specs.Differences.{difference_at, difference_of}
+use Rattle.edge_chain.proofs.PlaceLaws.{not_equal}
 use Rattle.edge_chain.proofs.differences.gap_between.Goals as goal
-
-not_equal : (a b : ℤ) (t : Bool) → int_eq a b ≡ t → (of_z w64 a ≡ of_z w64 b → ⊥) → t ≡ false
-not_equal a b true e apart = absurd (apart (ap (of_z w64) ((Decides-int_eq a b).0 e)))
-not_equal a b false e apart = refl
 
 unequal : (o : Ordering) (e f : Edge × ℤ) (d : Difference) → o ≡ Equal → int_eq e.1 f.1 ≡ false → d ≡ difference_at e.0 e.1 f.1 → Some d ≡ option_map difference_of (gap_by edge_cmp o e f None)
 unequal o e f d tie apart is = rw (tie, apart, is) refl

@@ -1,11 +1,9 @@
 -- The last kept sum is joined if its edge ties.
-use Rattle.std.proofs.Common.{◌≡◌, ◌∙◌, sym, ap, subst, refl, ℕ, ◌+◌, ◌-◌, ◌<◌, ◌≤◌, ◌^◌, arith, true, false, List, [], ◌∷◌, ◌++◌, length, take, get_or, ℤ, ◌+ℤ◌}
+use Rattle.std.proofs.Common.{◌≡◌, ◌∙◌, sym, ap, subst, ℕ, ◌+◌, ◌-◌, ◌<◌, ◌≤◌, ◌^◌, arith, true, false, List, [], ◌∷◌, length, take, get_or, ℤ, ◌+ℤ◌}
 use Rattle.std.specs.Prelude.{unsigned_abs, FitsSigned}
-use Rattle.std.specs.declared.cmp.Ordering.{Ordering}
-use Rattle.std.specs.declared.cmp.Ordering.TheVariants.{Equal}
 use Rattle.std.specs.Ordering.{is_eq}
 use Rattle.std.specs.Cmp.{Equal-is}
-use Rattle.std.proofs.lemmas.Int.{ints, fits_signed_from_abs}
+use Rattle.std.proofs.lemmas.Int.{fits_signed_from_abs}
 use mir.Syntax.{w64}
 use mir.Val.{to_z, of_z}
 use Rattle.edge_chain.specs.declared.edges.Edge.{Edge}
@@ -52,10 +50,10 @@ pub overflow_add-result : goal.overflow_add-result
 overflow_add-result c = fits c.args.sums.now c.args.kept _ c.args.edge c.args.sum c.requires.within c.requires.small c.if-kept-gt0.true
 
 pub returns-then-is_eq-clause-both : goal.returns-then-is_eq-clause-both
-returns-then-is_eq-clause-both c = joined c.args.sums.now c.args.kept _ c.args.edge c.args.sum c.requires.within c.requires.small c.if-kept-gt0.true (let h = c.if-is_eq in ?)
+returns-then-is_eq-clause-both c = joined c.args.sums.now c.args.kept _ c.args.edge c.args.sum c.requires.within c.requires.small c.if-kept-gt0.true (ap is_eq (sym c.cmp.ensures) ∙ sym c.is_eq.ensures ∙ c.if-is_eq.true)
 
 pub returns-else-is_eq-clause-both : goal.returns-else-is_eq-clause-both
-returns-else-is_eq-clause-both c = followed c.args.sums.now c.args.kept _ c.args.edge c.args.sum c.requires.within c.requires.small c.if-kept-gt0.true (let h = c.if-is_eq in ?)
+returns-else-is_eq-clause-both c = followed c.args.sums.now c.args.kept _ c.args.edge c.args.sum c.requires.within c.requires.small c.if-kept-gt0.true (ap is_eq (sym c.cmp.ensures) ∙ sym c.is_eq.ensures ∙ c.if-is_eq.false)
 
 pub returns-else-kept-gt0-clause-both : goal.returns-else-kept-gt0-clause-both
 returns-else-kept-gt0-clause-both c = started c.args.sums.now c.args.kept (c.args.edge, c.args.sum) c.args.edge c.args.sum c.requires.within c.requires.small (omega arith)

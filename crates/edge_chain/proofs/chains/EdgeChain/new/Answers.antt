@@ -1,7 +1,6 @@
 -- No triangle has the net 0 at each pair.
 use Rattle.std.proofs.Common.{◌≡◌, refl, sym, ap, ◌∙◌, [], List, true, ℤ}
 use Rattle.mesh_model.specs.Nets.{Pair}
-use Rattle.edge_chain.specs.declared.edges.Edge.{Edge}
 use Rattle.edge_chain.specs.NetLaws.{net-nil}
 use Rattle.edge_chain.specs.Chains.{kept_net}
 use Rattle.edge_chain.specs.Sums.{AreSums, entries_of}
