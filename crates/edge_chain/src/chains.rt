@@ -108,7 +108,8 @@ impl EdgeChain {
         }
     }
 
-    // So memory is in proportion to the edges that don't cancel, and time to the edges added.
+    // Gathers where the list has more than doubled: its room stays in proportion to the sums that are
+    // left, and each edge is sorted a few times only.
     fn gather_if_grown(&mut self)
         ensures { self.new ≡ self.old }
     {
