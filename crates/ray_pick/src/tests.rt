@@ -40,9 +40,9 @@ fn rays(rt: HostRuntime) {
 #[test]
 fn one_triangle(rt: HostRuntime) -> Result<(), Fail> {
     let triangle = Triangle {
-        a: point(0, 0, 0),
-        b: point(4, 0, 0),
-        c: point(4, 4, 0),
+        a: Point { x: 0, y: 0, z: 0 },
+        b: Point { x: 4, y: 0, z: 0 },
+        c: Point { x: 4, y: 4, z: 0 },
     };
     let down = point(0, 0, -2);
     // From the front, from behind, on the triangle, and with the triangle behind the origin.

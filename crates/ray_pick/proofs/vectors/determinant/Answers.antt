@@ -1,5 +1,4 @@
 use Rattle.std.proofs.Common.{SFits, w64, rules}
-use Rattle.ray_pick.specs.declared.vectors.Vector.{Vector}
 use Rattle.ray_pick.proofs.Determinants.{Fits, Steps, determinant_is, determinant_bound}
 use Rattle.ray_pick.proofs.vectors.determinant.Goals as goal
 
