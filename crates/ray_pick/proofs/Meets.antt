@@ -1,5 +1,5 @@
 -- The numbers of a hit, as the code has them.
-use Rattle.std.proofs.Common.{◌≡◌, ℕ, ◌+◌, ◌*◌, ◌≤◌, Bool, true, false, ℤ, Some, None, to_z, of_z, sym, ap, subst, ◌∙◌, arith}
+use Rattle.std.proofs.Common.{◌≡◌, ℕ, ◌+◌, ◌*◌, ◌≤◌, ℤ, Some, None, to_z, of_z, sym, ap, subst, ◌∙◌, arith}
 use Rattle.std.specs.Prelude.{Option, is_some, unsigned_abs, IfSome, MatchOption}
 use Rattle.std.specs.Int.{w128}
 use Rattle.grid_vertex.specs.declared.triangles.Triangle.{Triangle}

@@ -4,15 +4,15 @@ use Rattle.std.specs.Prelude.{Option, slice_get, unsigned_abs}
 use Rattle.std.proofs.lemmas.Bool.{cases_lt, ltb-true, ltb-false}
 use Rattle.std.proofs.lemmas.List.{length-append}
 use Rattle.std.proofs.lemmas.Option.{none-some, same_Some}
-use Rattle.std.proofs.Math.Nat.{mul-le-mul, mul-le-mul_right}
+use Rattle.std.proofs.Math.Nat.{mul-le-mul_right}
 use Rattle.grid_vertex.specs.declared.triangles.Triangle.{Triangle}
 use Rattle.file_model.specs.Lists.{SeenBody, triangles_of}
 use Rattle.ray_pick.specs.declared.picks.Hit.{Hit}
 use Rattle.std.specs.Int.{w128}
 use Rattle.ray_pick.specs.Rays.{RaySeen, IsHitAt, IsSmall, Misses}
 use Rattle.ray_pick.proofs.WideNumbers.{shown, widely}
-use Rattle.ray_pick.specs.Picks.{triangles_in, crosswise, IsNearest, IsSpot, IsFound, IsPickOf}
-use Rattle.ray_pick.specs.Walks.{is_nearer, nearer_of, StandsAt}
+use Rattle.ray_pick.specs.Picks.{triangles_in, crosswise, IsSpot, IsFound, IsPickOf}
+use Rattle.ray_pick.specs.Walks.{nearer_of, StandsAt}
 use Rattle.ray_pick.specs.HitLaws.{above_is_one, below_is_one, below_some}
 use Rattle.ray_pick.specs.OnePick.{same_there, hit_with, count_before, count_in}
 

@@ -1,5 +1,5 @@
 -- Where a ray meets a triangle, by Cramer's rule: the numbers of a hit are alone, and are those of Meetings.
-use Rattle.std.proofs.Common.{◌≡◌, ℕ, zero, suc, ◌+◌, ◌*◌, ◌≤◌, Bool, true, false, not, ◌&&◌, ◌≤ℤ◌, ℤ, pos, negsuc, ◌+ℤ◌, ◌-ℤ◌, ◌*ℤ◌, neg_ℤ, List, [], ◌∷◌, refl, sym, ap, subst, ◌∙◌, arith, ◌≢◌, inl, inr}
+use Rattle.std.proofs.Common.{◌≡◌, ℕ, zero, suc, ◌+◌, ◌*◌, ◌≤◌, Bool, true, false, not, ◌&&◌, ◌≤ℤ◌, ℤ, pos, negsuc, ◌+ℤ◌, ◌-ℤ◌, ◌*ℤ◌, List, [], ◌∷◌, refl, sym, ap, subst, ◌∙◌, arith, ◌≢◌, inl, inr}
 use Rattle.std.specs.Prelude.{unsigned_abs, int_lt}
 use Rattle.std.proofs.lemmas.Int.{ints, unsigned_abs-mul}
 use Rattle.std.proofs.lemmas.Bool.{and_parts, cases_lt}
@@ -8,7 +8,7 @@ use Rattle.std.specs.Ordering.{int_eq}
 use Rattle.ring_laws.specs.Ring.{Exp, X, ◌:+◌, ◌:-◌, ◌:*◌, ring}
 use Rattle.grid_vertex.specs.declared.triangles.Triangle.{Triangle}
 use Rattle.ray_pick.specs.declared.vectors.Vector.{Vector}
-use Rattle.ray_pick.specs.Rays.{RaySeen, way, vector_of, cross, dot, determinant, gain, IsHitWith, IsHitAt, Misses}
+use Rattle.ray_pick.specs.Rays.{RaySeen, way, vector_of, cross, determinant, gain, IsHitAt, Misses}
 use Rattle.ray_pick.specs.Meetings.{sign_of, signed, above_of, below_of, is_hit, is_met}
 
 -- ---- products

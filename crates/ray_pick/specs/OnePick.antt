@@ -1,14 +1,14 @@
 -- A ray has one pick of a frame's triangles.
-use Rattle.std.proofs.Common.{◌≡◌, ℕ, zero, suc, ◌+◌, ◌*◌, ◌<◌, ◌≤◌, ℤ, List, [], ◌∷◌, ◌++◌, length, take, Some, None, refl, sym, ap, subst, ◌∙◌, arith, inl, inr}
+use Rattle.std.proofs.Common.{◌≡◌, ℕ, zero, suc, ◌+◌, ◌<◌, ◌≤◌, ℤ, List, [], ◌∷◌, length, take, Some, None, refl, sym, ap, subst, ◌∙◌, arith, inl, inr}
 use Rattle.std.specs.Prelude.{Option, slice_get}
 use Rattle.std.proofs.lemmas.Bool.{cases_lt}
 use Rattle.std.proofs.lemmas.List.{length-append}
-use Rattle.std.proofs.lemmas.Option.{none-some, same_Some, slice_get_within}
+use Rattle.std.proofs.lemmas.Option.{none-some, same_Some}
 use Rattle.grid_vertex.specs.declared.triangles.Triangle.{Triangle}
 use Rattle.file_model.specs.Lists.{SeenBody, triangles_of}
 use Rattle.ray_pick.specs.declared.picks.Hit.{Hit}
 use Rattle.ray_pick.specs.Rays.{RaySeen, IsHitAt}
-use Rattle.ray_pick.specs.Picks.{triangles_in, crosswise, IsNearest, IsSpot, IsFound, IsPickOf, IsPicked}
+use Rattle.ray_pick.specs.Picks.{triangles_in, IsNearest, IsSpot, IsFound, IsPickOf, IsPicked}
 use Rattle.ray_pick.specs.HitLaws.{above_is_one, below_is_one}
 
 -- what one place has is one

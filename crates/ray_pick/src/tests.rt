@@ -40,9 +40,9 @@ fn rays(rt: HostRuntime) {
 #[test]
 fn one_triangle(rt: HostRuntime) -> Result<(), Fail> {
     let triangle = Triangle {
-        a: point(0, 0, 0),
-        b: point(4, 0, 0),
-        c: point(4, 4, 0),
+        a: Point { x: 0, y: 0, z: 0 },
+        b: Point { x: 4, y: 0, z: 0 },
+        c: Point { x: 4, y: 4, z: 0 },
     };
     let down = point(0, 0, -2);
     // From the front, from behind, on the triangle, and with the triangle behind the origin.
@@ -69,11 +69,11 @@ fn one_triangle(rt: HostRuntime) -> Result<(), Fail> {
 fn fan_of_a_square(rt: HostRuntime) -> Result<(), Fail> {
     let alloc = rt.alloc();
     let points = [
-        point(0, 0, 0),
-        point(4, 0, 0),
-        point(4, 4, 0),
-        point(0, 4, 0),
-        point(2, 2, 0),
+        Point { x: 0, y: 0, z: 0 },
+        Point { x: 4, y: 0, z: 0 },
+        Point { x: 4, y: 4, z: 0 },
+        Point { x: 0, y: 4, z: 0 },
+        Point { x: 2, y: 2, z: 0 },
     ];
     let corners = [[0, 1, 4], [1, 2, 4], [2, 3, 4], [3, 0, 4]];
     let bodies = [Arc::new(alloc, Body::from_lists(alloc, 1, &points, &corners)?)?];
@@ -98,12 +98,16 @@ fn fan_of_a_square(rt: HostRuntime) -> Result<(), Fail> {
 fn nearest_of_two_bodies(rt: HostRuntime) -> Result<(), Fail> {
     let alloc = rt.alloc();
     let low = [
-        point(0, 0, 0),
-        point(4, 0, 0),
-        point(4, 4, 0),
-        point(0, 4, 0),
+        Point { x: 0, y: 0, z: 0 },
+        Point { x: 4, y: 0, z: 0 },
+        Point { x: 4, y: 4, z: 0 },
+        Point { x: 0, y: 4, z: 0 },
     ];
-    let high = [point(0, 0, 3), point(8, 0, 3), point(8, 8, 3)];
+    let high = [
+        Point { x: 0, y: 0, z: 3 },
+        Point { x: 8, y: 0, z: 3 },
+        Point { x: 8, y: 8, z: 3 },
+    ];
     let bodies = [
         Arc::new(
             alloc,

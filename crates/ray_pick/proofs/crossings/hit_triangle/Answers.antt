@@ -1,5 +1,4 @@
-use Rattle.std.proofs.Common.{◌≡◌, ap, ◌∙◌}
-use Rattle.grid_vertex.specs.declared.points.Point.{Point}
+use Rattle.std.proofs.Common.{ap, ◌∙◌}
 use Rattle.ray_pick.specs.Rays.{RaySeen, way, vector_of}
 use Rattle.ray_pick.proofs.Meets.{answer_by}
 use Rattle.ray_pick.proofs.crossings.hit_triangle.Goals as goal

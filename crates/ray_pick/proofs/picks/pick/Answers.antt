@@ -1,11 +1,11 @@
-use Rattle.std.proofs.Common.{◌≡◌, ℕ, suc, ◌+◌, ◌*◌, ◌<◌, ◌≤◌, Fits, w32, length, map, get_or, take, Some, sym, ap, subst, ◌∙◌, arith, add-one, rules}
+use Rattle.std.proofs.Common.{◌≡◌, ℕ, ◌+◌, ◌<◌, ◌≤◌, Fits, w32, length, map, get_or, Some, sym, ap, subst, ◌∙◌, arith, add-one, rules}
 use Rattle.std.specs.Prelude.{slice_get, option_map}
 use Rattle.std.specs.Arc.{arc_value}
 use Rattle.std.proofs.lemmas.List.{take_all, length-map}
 use Rattle.std.proofs.lemmas.Option.{slice_get-map, slice_get-get_or}
-use Rattle.file_model.specs.Lists.{SeenBody, triangles_of}
+use Rattle.file_model.specs.Lists.{SeenBody}
 use Rattle.body_edges.specs.TriangleCounts.{length-triangles_from}
-use Rattle.ray_pick.specs.Picks.{AreBodiesOf, IsPickOf, IsPicked, triangles_in}
+use Rattle.ray_pick.specs.Picks.{IsPickOf, IsPicked, triangles_in}
 use Rattle.ray_pick.specs.Walks.{StandsAt}
 use Rattle.ray_pick.specs.OnePick.{count_before, count_in}
 use Rattle.ray_pick.proofs.PickSteps.{count_more}

@@ -1,5 +1,5 @@
 -- The bodies before this one were tried.
-use Rattle.std.proofs.Common.{◌≡◌, ◌*◌, ◌≤◌, map, take}
+use Rattle.std.proofs.Common.{◌≡◌, ◌*◌, ◌≤◌, map}
 use Rattle.std.specs.Arc.{arc_value}
 use Rattle.ray_pick.specs.Picks.{IsPickOf}
 use Rattle.ray_pick.specs.Walks.{IsSmallPick}

@@ -1,4 +1,4 @@
-use Rattle.std.proofs.Common.{◌≡◌, ℕ, ◌+◌, ◌≤◌, length, subst, arith}
+use Rattle.std.proofs.Common.{◌≡◌, ℕ, ◌+◌, length, subst, arith}
 use Rattle.file_model.specs.Lists.{triangles_of}
 use Rattle.body_edges.specs.TriangleCounts.{length-triangles_from}
 use Rattle.ray_pick.specs.Picks.{IsPickOf}
