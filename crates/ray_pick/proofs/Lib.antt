@@ -1,1 +1,4 @@
+mod WideNumbers
+mod Determinants
+mod Meets
 mod PickSteps

@@ -1,5 +1,5 @@
 -- A triangle more is tried, and a body more.
-use Rattle.std.proofs.Common.{◌≡◌, ℕ, zero, suc, ◌+◌, ◌*◌, ◌<◌, ◌≤◌, Bool, true, false, cond, ltb, ℤ, List, [], ◌∷◌, ◌++◌, length, take, Some, None, refl, sym, ap, subst, ◌∙◌, arith, inl, inr}
+use Rattle.std.proofs.Common.{◌≡◌, ℕ, zero, suc, ◌+◌, ◌*◌, ◌<◌, ◌≤◌, Bool, true, false, cond, ltb, ℤ, List, [], ◌∷◌, ◌++◌, length, take, Some, None, to_z, of_z, refl, sym, ap, subst, ◌∙◌, arith, inl, inr}
 use Rattle.std.specs.Prelude.{Option, slice_get, unsigned_abs}
 use Rattle.std.proofs.lemmas.Bool.{cases_lt, ltb-true, ltb-false}
 use Rattle.std.proofs.lemmas.List.{length-append}
@@ -8,11 +8,13 @@ use Rattle.std.proofs.Math.Nat.{mul-le-mul, mul-le-mul_right}
 use Rattle.grid_vertex.specs.declared.triangles.Triangle.{Triangle}
 use Rattle.file_model.specs.Lists.{SeenBody, triangles_of}
 use Rattle.ray_pick.specs.declared.picks.Hit.{Hit}
-use Rattle.ray_pick.specs.Rays.{RaySeen, IsHitAt, Misses}
+use Rattle.std.specs.Int.{w128}
+use Rattle.ray_pick.specs.Rays.{RaySeen, IsHitAt, IsSmall, Misses}
+use Rattle.ray_pick.proofs.WideNumbers.{shown, widely}
 use Rattle.ray_pick.specs.Picks.{triangles_in, crosswise, IsNearest, IsSpot, IsFound, IsPickOf}
 use Rattle.ray_pick.specs.Walks.{is_nearer, nearer_of, StandsAt}
 use Rattle.ray_pick.specs.HitLaws.{above_is_one, below_is_one, below_some}
-use Rattle.ray_pick.specs.OnePick.{same_there, count_before, count_in}
+use Rattle.ray_pick.specs.OnePick.{same_there, hit_with, count_before, count_in}
 
 -- ---- places
 
@@ -43,13 +45,13 @@ triangle_there (b ∷ bs) (suc i) k n body t there at e =
     get_behind (triangles_of b.lists) (triangles_in bs) n m place ∙ triangle_there bs i k m body t there at refl
 
 -- one body more
-pub count_more : (bodies : List SeenBody) (i : ℕ) (body : SeenBody) → slice_get bodies i ≡ Some body → count_before bodies (i + 1) ≡ count_before bodies i + count_in body
+pub count_more : (bodies : List SeenBody) (i : ℕ) (body : SeenBody) → slice_get bodies i ≡ Some body → count_before bodies (suc i) ≡ count_before bodies i + count_in body
 count_more [] i body there = absurd (none-some body there)
 count_more (b ∷ bs) zero body there =
     let same = ap count_in (same_Some b body there) in
     omega (arith, same, length-append (triangles_of b.lists) (triangles_in (take zero bs)))
 count_more (b ∷ bs) (suc i) body there =
-    omega (arith, count_more bs i body there, length-append (triangles_of b.lists) (triangles_in (take i bs)), length-append (triangles_of b.lists) (triangles_in (take (i + 1) bs)))
+    omega (arith, count_more bs i body there, length-append (triangles_of b.lists) (triangles_in (take i bs)), length-append (triangles_of b.lists) (triangles_in (take (suc i) bs)))
 
 -- ---- fractions
 
@@ -104,7 +106,7 @@ miss_more ray patches bodies n (Some h) t there misses pick =
     tie k n less after = omega arith
 
 -- the triangle behind the first n is hit, and each before at a greater fraction
-take_hit : (ray : RaySeen) (patches : List ℕ) (bodies : List SeenBody) (n patch triangle : ℕ) (t : Triangle) (above below : ℤ) → slice_get (triangles_in bodies) n ≡ Some t → IsHitAt ray t above below → IsSpot patches bodies n patch triangle → ((k : ℕ) (u : Triangle) (a b : ℤ) → k < n → slice_get (triangles_in bodies) k ≡ Some u → IsHitAt ray u a b → crosswise above b < crosswise a below) → IsFound ray patches bodies (n + 1) (record { place = n; patch = patch; triangle = triangle; above = above; below = below })
+take_hit : (ray : RaySeen) (patches : List ℕ) (bodies : List SeenBody) (n patch triangle : ℕ) (t : Triangle) (above below : ℤ) → slice_get (triangles_in bodies) n ≡ Some t → IsHitAt ray t above below → IsSpot patches bodies n patch triangle → ((k : ℕ) (u : Triangle) (a b : ℤ) → k < n → slice_get (triangles_in bodies) k ≡ Some u → IsHitAt ray u a b → crosswise above b < crosswise a below) → IsFound ray patches bodies (n + 1) (hit_with n patch triangle above below)
 take_hit ray patches bodies n patch triangle t above below there hit spot before =
     record {
       nearest = record {
@@ -136,18 +138,12 @@ take_hit ray patches bodies n patch triangle t above below there hit spot before
     alike above below a b e f = equal (crosswise above b) (crosswise a below) cc
 
 -- the triangle behind the first n is hit
-pub hit_more : (ray : RaySeen) (patches : List ℕ) (bodies : List SeenBody) (n patch triangle : ℕ) (best : Option Hit) (t : Triangle) (above below : ℤ) → slice_get (triangles_in bodies) n ≡ Some t → IsHitAt ray t above below → IsSpot patches bodies n patch triangle → IsPickOf ray patches bodies n best → IsPickOf ray patches bodies (n + 1) (nearer_of best (record { place = n; patch = patch; triangle = triangle; above = above; below = below }))
+pub hit_more : (ray : RaySeen) (patches : List ℕ) (bodies : List SeenBody) (n patch triangle : ℕ) (best : Option Hit) (t : Triangle) (above below : ℤ) → slice_get (triangles_in bodies) n ≡ Some t → IsHitAt ray t above below → IsSpot patches bodies n patch triangle → IsPickOf ray patches bodies n best → IsPickOf ray patches bodies (n + 1) (nearer_of best (hit_with n patch triangle above below))
 hit_more ray patches bodies n patch triangle None t above below there hit spot pick =
     take_hit ray patches bodies n patch triangle t above below there hit spot (λ k u a b less at other. absurd (pick k u less at a b other))
 hit_more ray patches bodies n patch triangle (Some h) t above below there hit spot pick =
     by (ltb (crosswise above h.below) (crosswise h.above below)) refl
   where
-    new : Hit
-    new = record { place = n; patch = patch; triangle = triangle; above = above; below = below }
-
-    old : IsNearest ray (triangles_in bodies) n h.place h.above h.below
-    old = pick.nearest
-
     tie : (k n : ℕ) → k < n + 1 → n ≤ k → k ≡ n
     tie k n less after = omega arith
 
@@ -157,25 +153,24 @@ hit_more ray patches bodies n patch triangle (Some h) t above below there hit sp
     alike : (above below a b c d : ℤ) → a ≡ c → b ≡ d → crosswise above b ≤ crosswise a below → crosswise above d ≤ crosswise c below
     alike above below a b c d e f most = subst (λ (z : ℤ). crosswise above z ≤ crosswise c below) f (subst (λ (z : ℤ). crosswise above b ≤ crosswise z below) e most)
 
-    by : (nearer : Bool) → ltb (crosswise above h.below) (crosswise h.above below) ≡ nearer → IsPickOf ray patches bodies (n + 1) (cond nearer (Some new) (Some h))
-    unfolding new
+    by : (nearer : Bool) → ltb (crosswise above h.below) (crosswise h.above below) ≡ nearer → IsPickOf ray patches bodies (n + 1) (cond nearer (Some (hit_with n patch triangle above below)) (Some h))
     by true e =
         take_hit ray patches bodies n patch triangle t above below there hit spot
-        (λ k u a b less at other. less_most (unsigned_abs above) (unsigned_abs below) (unsigned_abs h.above) (unsigned_abs h.below) (unsigned_abs a) (unsigned_abs b) (below_some ray old.triangle h.above h.below old.hit) (below_some ray u a b other) (ltb-true (crosswise above h.below) (crosswise h.above below) e) (old.least k u a b less at other))
+        (λ k u a b less at other. less_most (unsigned_abs above) (unsigned_abs below) (unsigned_abs h.above) (unsigned_abs h.below) (unsigned_abs a) (unsigned_abs b) (below_some ray pick.nearest.triangle h.above h.below pick.nearest.hit) (below_some ray u a b other) (ltb-true (crosswise above h.below) (crosswise h.above below) e) (pick.nearest.least k u a b less at other))
     by false e =
         record {
           nearest = record {
-            triangle = old.triangle;
-            counted = more h.place n old.counted;
-            there = old.there;
-            hit = old.hit;
+            triangle = pick.nearest.triangle;
+            counted = more h.place n pick.nearest.counted;
+            there = pick.nearest.there;
+            hit = pick.nearest.hit;
             least = λ k u a b less at other. elim (cases_lt k n) [
-              | inl before ↦ old.least k u a b before at other
+              | inl before ↦ pick.nearest.least k u a b before at other
               | inr after ↦
                   let same = subst (λ (v : Triangle). IsHitAt ray v a b) (same_there (triangles_in bodies) k n u t (tie k n less after) at there) other in
                   alike h.above h.below above below a b (above_is_one ray t above below a b hit same) (below_is_one ray t above below a b hit same) (ltb-false (crosswise above h.below) (crosswise h.above below) e)
             ];
-            first = old.first;
+            first = pick.nearest.first;
           };
           spot = pick.spot;
         }
@@ -188,3 +183,7 @@ spot_here patches bodies index patch n triangle body stands inside place =
 
 pub stands_there : (patches : List ℕ) (bodies : List SeenBody) (index patch n triangle : ℕ) (body : SeenBody) (t : Triangle) → StandsAt patches bodies index patch body → slice_get (triangles_of body.lists) triangle ≡ Some t → n ≡ count_before bodies index + triangle → slice_get (triangles_in bodies) n ≡ Some t
 stands_there patches bodies index patch n triangle body t stands at place = triangle_there bodies index triangle n body t stands.body_there at place
+
+-- a hit, as a call shows its numbers
+pub shown_hit : (ray : RaySeen) (t : Triangle) (a b : ℤ) → IsSmall a b → IsHitAt ray t a b → IsHitAt ray t (to_z w128 (of_z w128 a)) (to_z w128 (of_z w128 b))
+shown_hit ray t a b small hit = rw (shown a small.above_within, shown b (widely b small.below_within)) hit

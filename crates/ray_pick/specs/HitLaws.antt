@@ -239,8 +239,8 @@ hit_from_numbers ray t met =
     let n1 = whole w1 p.first in
     let n2 = whole w2 p.second in
     let on_axis : (o e a b c : ℤ) → g *ℤ (o -ℤ a) ≡ determinant q v d *ℤ (b -ℤ a) +ℤ determinant u q d *ℤ (c -ℤ a) -ℤ determinant v u q *ℤ e → below *ℤ o +ℤ above *ℤ e ≡ pos (unsigned_abs w0) *ℤ a +ℤ pos (unsigned_abs w1) *ℤ b +ℤ pos (unsigned_abs w2) *ℤ c =
-        λ o e a b c cramer. with_weights below above o e w0 w1 w2 (pos (unsigned_abs w0)) (pos (unsigned_abs w1)) (pos (unsigned_abs w2)) a b c n0 n1 n2
-            (to_corners below above o e w0 w1 w2 a b c sum (with_sign s g (o -ℤ a) (determinant q v d) (b -ℤ a) (determinant u q d) (c -ℤ a) (determinant v u q) e cramer)) in
+    λ o e a b c cramer. with_weights below above o e w0 w1 w2 (pos (unsigned_abs w0)) (pos (unsigned_abs w1)) (pos (unsigned_abs w2)) a b c n0 n1 n2
+    (to_corners below above o e w0 w1 w2 a b c sum (with_sign s g (o -ℤ a) (determinant q v d) (b -ℤ a) (determinant u q d) (c -ℤ a) (determinant v u q) e cramer)) in
     record {
       w0 = unsigned_abs w0;
       w1 = unsigned_abs w1;

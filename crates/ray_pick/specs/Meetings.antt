@@ -24,9 +24,13 @@ below_of u v d = signed (determinant u v d) (determinant u v d)
 abbrev pub is_inside : (w1 w2 below : ℤ) → Bool
 is_inside w1 w2 below = not (int_lt w1 (pos 0)) && not (int_lt w2 (pos 0)) && not (int_lt below (w1 +ℤ w2))
 
--- the triangle is hit where its plane is crossed in front of the origin, and within the triangle
+-- the plane is crossed, and not behind the origin
+abbrev pub is_ahead : (gain above : ℤ) → Bool
+is_ahead gain above = not (int_eq gain (pos 0)) && not (int_lt above (pos 0))
+
+-- the triangle is hit where its plane is crossed, within the triangle
 abbrev pub is_hit : (gain w1 w2 above below : ℤ) → Bool
-is_hit gain w1 w2 above below = not (int_eq gain (pos 0)) && not (int_lt above (pos 0)) && is_inside w1 w2 below
+is_hit gain w1 w2 above below = is_ahead gain above && is_inside w1 w2 below
 
 abbrev pub is_met : Vector → Vector → Vector → Vector → Bool
 is_met u v q d =

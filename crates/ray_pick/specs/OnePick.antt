@@ -32,8 +32,8 @@ stands_before (b ∷ bs) zero (suc j) body less there =
 stands_before (b ∷ bs) (suc i) (suc j) body less there =
     omega (arith, stands_before bs i j body (omega arith) there, length-append (triangles_of b.lists) (triangles_in (take i bs)), length-append (triangles_of b.lists) (triangles_in (take j bs)))
 
--- the same numbers of a hit
-abbrev hit_with : ℕ → ℕ → ℕ → ℤ → ℤ → Hit
+-- a hit of these numbers
+abbrev pub hit_with : ℕ → ℕ → ℕ → ℤ → ℤ → Hit
 hit_with place patch triangle above below = record { place = place; patch = patch; triangle = triangle; above = above; below = below }
 
 same_hit : (h k : Hit) → h.place ≡ k.place → h.patch ≡ k.patch → h.triangle ≡ k.triangle → h.above ≡ k.above → h.below ≡ k.below → h ≡ k
@@ -48,15 +48,15 @@ same_hit h k place patch triangle above below =
 same_index : (patches : List ℕ) (bodies : List SeenBody) (place p q t u : ℕ) (s : IsSpot patches bodies place p t) (r : IsSpot patches bodies place q u) → s.index ≡ r.index
 same_index patches bodies place p q t u s r =
     elim (cases_lt s.index r.index) [
-      | inl less ↦ absurd (apart s.place_is s.inside r.place_is (stands_before bodies s.index r.index s.body less s.body_there))
+      | inl less ↦ absurd (apart place t u (count_in s.body) (count_before bodies s.index) (count_before bodies r.index) s.place_is s.inside r.place_is (stands_before bodies s.index r.index s.body less s.body_there))
       | inr most ↦ elim (cases_lt r.index s.index) [
-        | inl less ↦ absurd (apart r.place_is r.inside s.place_is (stands_before bodies r.index s.index r.body less r.body_there))
+        | inl less ↦ absurd (apart place u t (count_in r.body) (count_before bodies r.index) (count_before bodies s.index) r.place_is r.inside s.place_is (stands_before bodies r.index s.index r.body less r.body_there))
         | inr more ↦ tie s.index r.index most more
       ]
     ]
   where
-    apart : {place t u n i j : ℕ} → place ≡ i + t → t < n → place ≡ j + u → i + n ≤ j → ⊥
-    apart first inside second before = omega arith
+    apart : (place t u n i j : ℕ) → place ≡ i + t → t < n → place ≡ j + u → i + n ≤ j → ⊥
+    apart place t u n i j first inside second before = omega arith
 
     tie : (i j : ℕ) → j ≤ i → i ≤ j → i ≡ j
     tie i j most more = omega arith
@@ -64,10 +64,10 @@ same_index patches bodies place p q t u s r =
 same_triangle : (patches : List ℕ) (bodies : List SeenBody) (place p q t u : ℕ) (s : IsSpot patches bodies place p t) (r : IsSpot patches bodies place q u) → t ≡ u
 same_triangle patches bodies place p q t u s r =
     let before = ap (count_before bodies) (same_index patches bodies place p q t u s r) in
-    plain s.place_is r.place_is before
+    plain place t u (count_before bodies s.index) (count_before bodies r.index) s.place_is r.place_is before
   where
-    plain : {place t u i j : ℕ} → place ≡ i + t → place ≡ j + u → i ≡ j → t ≡ u
-    plain first second same = omega arith
+    plain : (place t u i j : ℕ) → place ≡ i + t → place ≡ j + u → i ≡ j → t ≡ u
+    plain place t u i j first second same = omega arith
 
 same_patch : (patches : List ℕ) (bodies : List SeenBody) (place p q t u : ℕ) (s : IsSpot patches bodies place p t) (r : IsSpot patches bodies place q u) → p ≡ q
 same_patch patches bodies place p q t u s r = same_there patches s.index r.index p q (same_index patches bodies place p q t u s r) s.patch_there r.patch_there
@@ -76,15 +76,15 @@ same_patch patches bodies place p q t u s r = same_there patches s.index r.index
 same_place : (ray : RaySeen) (triangles : List Triangle) (n p q : ℕ) (a b c d : ℤ) → IsNearest ray triangles n p a b → IsNearest ray triangles n q c d → p ≡ q
 same_place ray triangles n p q a b c d h k =
     elim (cases_lt p q) [
-      | inl less ↦ absurd (apart (k.first p h.triangle a b less h.there h.hit) (h.least q k.triangle c d k.counted k.there k.hit))
+      | inl less ↦ absurd (apart _ _ (k.first p h.triangle a b less h.there h.hit) (h.least q k.triangle c d k.counted k.there k.hit))
       | inr most ↦ elim (cases_lt q p) [
-        | inl less ↦ absurd (apart (h.first q k.triangle c d less k.there k.hit) (k.least p h.triangle a b h.counted h.there h.hit))
+        | inl less ↦ absurd (apart _ _ (h.first q k.triangle c d less k.there k.hit) (k.least p h.triangle a b h.counted h.there h.hit))
         | inr more ↦ tie p q most more
       ]
     ]
   where
-    apart : {m n : ℕ} → m < n → n ≤ m → ⊥
-    apart less most = omega arith
+    apart : (m n : ℕ) → m < n → n ≤ m → ⊥
+    apart m n less most = omega arith
 
     tie : (i j : ℕ) → j ≤ i → i ≤ j → i ≡ j
     tie i j most more = omega arith

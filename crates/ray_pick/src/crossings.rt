@@ -4,7 +4,7 @@ ghost use Rattle.std.specs.Prelude.{◌≡◌, ◌+◌, ◌≤◌, pos, ◌+ℤ�
 ghost use Rattle.patch_body.specs.Seen.{IsInGrid};
 ghost use Rattle.ray_pick.specs.Rays.{IsHitAt, Misses, IsSmall};
 ghost use Rattle.ray_pick.specs.Bounds.{IsShort};
-ghost use Rattle.ray_pick.specs.Meetings.{signed, is_inside, is_hit, is_met, above_of, below_of};
+ghost use Rattle.ray_pick.specs.Meetings.{signed, is_ahead, is_inside, is_hit, is_met, above_of, below_of};
 
 use crate::rays::Ray;
 use crate::vectors::{Vector, determinant, vector_of, way};
@@ -38,13 +38,20 @@ fn is_inside(b: i128, c: i128, below: i128) -> bool
     b >= 0 && c >= 0 && below >= sum(b, c)
 }
 
+// Whether the plane of a triangle with these numbers is crossed, and not behind the origin.
+fn is_ahead(gain: i128, above: i128) -> bool
+    ensures { result ≡ is_ahead gain above }
+{
+    gain != 0 && above >= 0
+}
+
 // Whether a triangle with these numbers is hit.
 fn is_hit(gain: i128, b: i128, c: i128, above: i128, below: i128) -> bool
     requires first { unsigned_abs b ≤ 442721857769029238784 }
     requires second { unsigned_abs c ≤ 442721857769029238784 }
     ensures { result ≡ is_hit gain b c above below }
 {
-    gain != 0 && above >= 0 && is_inside(b, c, below)
+    is_ahead(gain, above) && is_inside(b, c, below)
 }
 
 // Where a ray meets a triangle, by the ways from its corner a to b, to c, to the ray's origin, and the ray's

@@ -13,6 +13,8 @@ ghost use Rattle.ray_pick.specs.Picks.{IsPicked};
 mod crossings;
 mod picks;
 mod rays;
+#[cfg(test)]
+mod tests;
 mod vectors;
 
 pub use crossings::hit_triangle;

@@ -4,7 +4,7 @@ use Rattle.std.specs.Prelude.{IfSome, slice_get, option_map}
 use Rattle.file_model.specs.Lists.{BodyLists, IndexLists, FileLists, SeenBody}
 use Rattle.file_model.specs.Reading.{file_in}
 use Rattle.mesh_model.specs.Meshes.{MeshLists}
-use Rattle.round_model.specs.Refiners.{Refining, cut_patches}
+use Rattle.round_model.specs.Refiners.{Refining, round_state, cut_patches}
 use Rattle.round_model.specs.Scores.{score_of}
 use Rattle.round_model.specs.Views.{ViewSeen, view_rules}
 use Rattle.body_loads.specs.Loads.{body_at, read_as, AreBodiesAt}
@@ -39,8 +39,8 @@ told_pick None view ray mesh r bodies found text rules through are picked is_lin
 told_pick (Some bytes) view ray mesh r bodies found text rules through are picked is_line = λ file is of.
     let loaded = subst (λ (i : IndexLists). AreBodiesAt i bytes (cut_patches r) bodies) (sym of.index) are in
     record {
-      frame = round_frame r bodies;
-      of_round = round_is_of (λ (lists : MeshLists). map (score_of view.eye view.focal) lists.index.nodes) view.threshold view.limit bytes file mesh r bodies is of rules through loaded;
+      frame = round_frame r (round_state r).tries bodies;
+      of_round = round_is_of (λ (lists : MeshLists). map (score_of view.eye view.focal) lists.index.nodes) view.threshold view.limit bytes file mesh r (round_state r).tries bodies is of rules through refl loaded;
       bodies = bodies;
       of_file = loaded_in bytes file (cut_patches r) bodies is loaded;
       found = found;

@@ -10,8 +10,9 @@ use Rattle.mesh_model.specs.Graph.{nodes_where}
 use Rattle.mesh_model.specs.Nets.{net, HaveOneNet}
 use Rattle.mesh_model.specs.Frames.{leads_out, frame_patches, frame_triangles, IsCut}
 use Rattle.mesh_model.specs.Accepted.{IsAccepted, triangles_out_of}
-use Rattle.mesh_model.specs.Meshes.{MeshLists}
+use Rattle.mesh_model.specs.Meshes.{MeshLists, IsMesh}
 use Rattle.frame_laws.specs.Frames.{frame_of_set}
+use Rattle.round_laws.specs.Cuts.{round_is_cut, round_boundary}
 use Rattle.text_model.specs.FrameText.{Frame, IsFrameText}
 use Rattle.file_model.specs.Lists.{SeenBody}
 use Rattle.frame_writer.specs.Frames.{frame_of, triangles_in}
@@ -57,26 +58,24 @@ granted_more (t ∷ ts) patch (first, others) = (first, granted_more ts patch ot
 pub record IsThrough (r : Refining) : Type 0 where
   pub whole : IsWhole (round_state r)
   pub granted : AllByRecursion (λ (answer : Try). answer.epoch ≡ 1) r.tries
-  pub answers : r.tries ≡ (round_state r).tries
-  pub cut : IsCut r.rules.mesh.index.fields r.rules.mesh.root (has (round_state r).set)
-  pub boundary : (file : FileLists) → IsAccepted file r.rules.mesh.root → file.index ≡ r.rules.mesh.index → HaveOneNet (frame_of_set file (has (round_state r).set)) (triangles_out_of file r.rules.mesh.root)
 
--- its frame, of the bodies loaded for it
-abbrev pub round_frame : Refining → List SeenBody → Frame
-round_frame r bodies = frame_of 0 1 (cut_of r) r.tries (cut_patches r) bodies
+-- its frame, of these tries and the bodies loaded for it
+abbrev pub round_frame : Refining → List Try → List SeenBody → Frame
+round_frame r tries bodies = frame_of 0 1 (cut_of r) tries (cut_patches r) bodies
 
-round_shows : (bytes : List ℕ) (file : FileLists) (mesh : MeshSeen) (r : Refining) (bodies : List SeenBody) → file_in bytes ≡ Ok file → IsMeshOf file mesh → r.rules.mesh ≡ mesh.lists → IsThrough r → AreBodiesAt file.index bytes (cut_patches r) bodies
-    → ShowsCut file mesh.lists.root (has (round_state r).set) (round_frame r bodies)
+round_shows : (bytes : List ℕ) (file : FileLists) (mesh : MeshSeen) (r : Refining) (tries : List Try) (bodies : List SeenBody) → file_in bytes ≡ Ok file → IsMeshOf file mesh → r.rules.mesh ≡ mesh.lists → AreBodiesAt file.index bytes (cut_patches r) bodies
+    → ShowsCut file mesh.lists.root (has (round_state r).set) (round_frame r tries bodies)
 unfolding cut_of cut_patches
-round_shows bytes file mesh r bodies is of same through are =
+round_shows bytes file mesh r tries bodies is of same are =
     let set = has (round_state r).set in
+    let is_mesh : IsMesh r.rules.mesh = subst IsMesh (sym same) of.facts in
     let index : r.rules.mesh.index ≡ file.index = ap (λ (m : MeshLists). m.index) same ∙ sym of.index in
     let root : r.rules.mesh.root ≡ mesh.lists.root = ap (λ (m : MeshLists). m.root) same in
     let patches : cut_patches r ≡ frame_patches set file.index.fields = ap (λ (i : IndexLists). frame_patches set i.fields) index in
     let triangles : triangles_in bodies ≡ frame_triangles set file.index.fields file.bodies = triangles_in-lists bodies ∙ loads_triangles bytes file (leads_out set) bodies is (subst (λ (ps : List ℕ). AreBodiesAt file.index bytes ps bodies) patches are) in
-    let border = subst (λ (v : ℕ). HaveOneNet (frame_of_set file set) (triangles_out_of file v)) root (through.boundary file (subst (IsAccepted file) (sym root) of.accepted) (sym index)) in
+    let border = subst (λ (v : ℕ). HaveOneNet (frame_of_set file set) (triangles_out_of file v)) root (round_boundary r.rules file (epochs_of r.tries) is_mesh (subst (IsAccepted file) (sym root) of.accepted) (sym index)) in
     record {
-      cut = subst (λ (v : ℕ). IsCut file.index.fields v set) root (subst (λ (i : IndexLists). IsCut i.fields r.rules.mesh.root set) index through.cut);
+      cut = subst (λ (v : ℕ). IsCut file.index.fields v set) root (subst (λ (i : IndexLists). IsCut i.fields r.rules.mesh.root set) index (round_is_cut r.rules is_mesh (epochs_of r.tries)));
       nodes = ap (λ (i : IndexLists). nodes_where (length i.nodes) set) index;
       patches = patches;
       triangles = triangles;
@@ -88,10 +87,10 @@ abbrev pub IsBy : (MeshLists → List ℕ) → ℕ → ℕ → MeshSeen → Refi
 IsBy scores least limit mesh r = r.rules ≡ want_rules scores least limit mesh.lists
 
 -- the frame of the bodies loaded for a granted round
-pub round_is_of : (scores : MeshLists → List ℕ) (least limit : ℕ) (bytes : List ℕ) (file : FileLists) (mesh : MeshSeen) (r : Refining) (bodies : List SeenBody) → file_in bytes ≡ Ok file → IsMeshOf file mesh → IsBy scores least limit mesh r → IsThrough r → AreBodiesAt file.index bytes (cut_patches r) bodies
-    → IsRoundFrame (want_rules scores least limit) file mesh.lists.root (round_frame r bodies)
+pub round_is_of : (scores : MeshLists → List ℕ) (least limit : ℕ) (bytes : List ℕ) (file : FileLists) (mesh : MeshSeen) (r : Refining) (tries : List Try) (bodies : List SeenBody) → file_in bytes ≡ Ok file → IsMeshOf file mesh → IsBy scores least limit mesh r → IsThrough r → tries ≡ (round_state r).tries → AreBodiesAt file.index bytes (cut_patches r) bodies
+    → IsRoundFrame (want_rules scores least limit) file mesh.lists.root (round_frame r tries bodies)
 unfolding rules_of
-round_is_of scores least limit bytes file mesh r bodies is of rules through are = record {
+round_is_of scores least limit bytes file mesh r tries bodies is of rules through answers are = record {
   mesh = mesh.lists;
   is_mesh = of.facts;
   of_file = sym of.index;
@@ -99,17 +98,17 @@ round_is_of scores least limit bytes file mesh r bodies is of rules through are 
   epochs = epochs_of r.tries;
   granted = subst (λ (rs : Rules). IsGranted rs (epochs_of r.tries)) rules (record { whole = through.whole; granted = granted_epochs r.tries through.granted });
   still = record { session = refl; number = refl };
-  shows = subst (λ (rs : Rules). ShowsCut file mesh.lists.root (has (round_of rs (epochs_of r.tries)).set) (round_frame r bodies)) rules (round_shows bytes file mesh r bodies is of (ap (λ (rs : Rules). rs.mesh) rules) through are);
-  tries = through.answers ∙ ap (λ (rs : Rules). (round_of rs (epochs_of r.tries)).tries) rules;
+  shows = subst (λ (rs : Rules). ShowsCut file mesh.lists.root (has (round_of rs (epochs_of r.tries)).set) (round_frame r tries bodies)) rules (round_shows bytes file mesh r tries bodies is of (ap (λ (rs : Rules). rs.mesh) rules) are);
+  tries = answers ∙ ap (λ (rs : Rules). (round_of rs (epochs_of r.tries)).tries) rules;
 }
 
 -- where the file is told
-pub told_round : (scores : MeshLists → List ℕ) (least limit : ℕ) (told : Option (List ℕ)) (mesh : MeshSeen) (r : Refining) (bodies : List SeenBody) (text : List ℕ) → IsBy scores least limit mesh r → IsThrough r → IfSome told (λ (bytes : List ℕ). AreBodiesAt mesh.lists.index bytes (cut_patches r) bodies)
-    → IsFrameText (round_frame r bodies) text → IfSome told (λ (bytes : List ℕ). (file : FileLists) → file_in bytes ≡ Ok file → IsMeshOf file mesh → IsRoundText (want_rules scores least limit) file mesh.lists.root text)
-told_round scores least limit None mesh r bodies text rules through are written = tt
-told_round scores least limit (Some bytes) mesh r bodies text rules through are written = λ file is of. record {
-  frame = round_frame r bodies;
-  of_round = round_is_of scores least limit bytes file mesh r bodies is of rules through (subst (λ (i : IndexLists). AreBodiesAt i bytes (cut_patches r) bodies) (sym of.index) are);
+pub told_round : (scores : MeshLists → List ℕ) (least limit : ℕ) (told : Option (List ℕ)) (mesh : MeshSeen) (r : Refining) (bodies : List SeenBody) (text : List ℕ) → IsBy scores least limit mesh r → IsThrough r → r.tries ≡ (round_state r).tries → IfSome told (λ (bytes : List ℕ). AreBodiesAt mesh.lists.index bytes (cut_patches r) bodies)
+    → IsFrameText (round_frame r r.tries bodies) text → IfSome told (λ (bytes : List ℕ). (file : FileLists) → file_in bytes ≡ Ok file → IsMeshOf file mesh → IsRoundText (want_rules scores least limit) file mesh.lists.root text)
+told_round scores least limit None mesh r bodies text rules through answers are written = tt
+told_round scores least limit (Some bytes) mesh r bodies text rules through answers are written = λ file is of. record {
+  frame = round_frame r r.tries bodies;
+  of_round = round_is_of scores least limit bytes file mesh r r.tries bodies is of rules through answers (subst (λ (i : IndexLists). AreBodiesAt i bytes (cut_patches r) bodies) (sym of.index) are);
   is = written;
 }
 

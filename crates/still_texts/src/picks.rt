@@ -24,8 +24,8 @@ use view_outside::Store;
 
 // Appends the line of a hit.
 #[tactic(auto, unfolding(crate::specs::Picks::hit_line))]
-fn add_hit(alloc: Global, hit: &Hit, text: &mut Vec<u8>) -> Result<(), NoMemory>
-    ensures { OnOk result (Adds text.old.items text.new.items (hit_line hit.now)) }
+fn add_hit(alloc: Global, hit: Hit, text: &mut Vec<u8>) -> Result<(), NoMemory>
+    ensures { OnOk result (Adds text.old.items text.new.items (hit_line hit)) }
 {
     let parts = [
         Part::Number(hit.place),
@@ -46,7 +46,7 @@ fn line_of_pick(alloc: Global, found: Option<Hit>) -> Result<Vec<u8>, NoMemory>
 {
     let mut text = Vec::new(alloc);
     match found {
-        Some(hit) => add_hit(alloc, &hit, &mut text)?,
+        Some(hit) => add_hit(alloc, hit, &mut text)?,
         None => add_line(alloc, "miss", &[], &mut text)?,
     }
     Ok(text)

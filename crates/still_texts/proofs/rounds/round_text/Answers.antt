@@ -22,8 +22,8 @@ returns-in_err-bodies-clause-told g c =
 pub returns-clause-told : goal.returns-clause-told
 returns-clause-told g c =
     let round = c.in_ok-round.round in
-    let through : IsThrough round = record { whole = c.in_ok-round.ensures.whole; granted = c.in_ok-round.ensures.granted; answers = sym c.tries.ensures.value ∙ c.tries.ensures.round; cut = c.cut.ensures.cut; boundary = c.patches.ensures.boundary } in
-    told_round (g.W.Want.scores c.args.want.now) (g.W.Want.least c.args.want.now) c.args.limit _ c.args.mesh.now round (map arc_value c.in_ok-bodies.bodies.items) _ c.in_ok-round.ensures.rules through
+    let through : IsThrough round = record { whole = c.in_ok-round.ensures.whole; granted = c.in_ok-round.ensures.granted } in
+    told_round (g.W.Want.scores c.args.want.now) (g.W.Want.least c.args.want.now) c.args.limit _ c.args.mesh.now round (map arc_value c.in_ok-bodies.bodies.items) _ c.in_ok-round.ensures.rules through (sym c.tries.ensures.value ∙ c.tries.ensures.round)
     (rw (c.index.ensures.value, c.patches.ensures.patches) at c.in_ok-bodies.ensures.told)
     (rw (c.cut.ensures.nodes, c.tries.ensures.value, c.patches-2.ensures.patches, c.deref.ensures.value) at (first_text _ _ _ c.new-text.ensures.items c.in_ok-frame_text.ensures.ok))
 
