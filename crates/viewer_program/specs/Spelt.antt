@@ -2,7 +2,7 @@
 use Rattle.std.specs.Prelude.{ℕ, List, [], ◌∷◌, Option, Some, None, ℤ, codes, bytes_eq, if◌then◌else◌}
 use Rattle.grid_vertex.specs.declared.points.Point.{Point}
 use Rattle.number_words.specs.Numbers.{number_in, signed_in}
-use Rattle.round_model.specs.declared.limits.TheConstants.{EYE_REACH, GREATEST_FOCAL, GREATEST_THRESHOLD}
+use Rattle.round_model.specs.declared.limits.TheConstants.{GREATEST_FOCAL, GREATEST_THRESHOLD}
 use Rattle.round_model.specs.Views.{ViewSeen, view_of}
 use Rattle.view_planes.specs.declared.half_spaces.TheConstants as half_spaces
 use Rattle.ray_pick.specs.declared.rays.TheConstants.{FARTHEST, LONGEST}

@@ -1,5 +1,5 @@
 -- What the words that are left add is what all of them add.
-use Rattle.std.proofs.Common.{◌≡◌, ℕ, Some, length, map}
+use Rattle.std.proofs.Common.{◌≡◌, Some, length, map}
 use Rattle.std.specs.Prelude.{string_bytes}
 use Rattle.viewer_program.specs.Spelt.{with_half_spaces}
 use Rattle.viewer_program.proofs.commands.spelt.add_half_spaces.Given as goal
