@@ -5,7 +5,7 @@ use Rattle.std.specs.Bool.{then_some}
 use Rattle.std.proofs.Math.Seq.{take-length}
 use Rattle.view_planes.specs.HalfSpaces.{HalfSpaceSeen}
 use Rattle.view_planes.specs.Planes.{PlanesSeen, has_room, with_plane}
-use Rattle.viewer_program.specs.Spelt.{half_space_in, with_one, with_all}
+use Rattle.viewer_program.specs.Spelt.{half_space_in, with_half_space, with_half_spaces}
 use Rattle.viewer_program.specs.Commands.{pick_in}
 
 abbrev no_planes : Option PlanesSeen
@@ -17,8 +17,8 @@ module _ {X : Type 0} (f : X → List ℕ) (seen : PlanesSeen) where
 
   -- the first four words spell the next half-space
   next : (xs : List X) (a b c d : X) → 4 ≤ length xs → a ≡ slice_index_or xs 0 a → b ≡ slice_index_or xs 1 b → c ≡ slice_index_or xs 2 c → d ≡ slice_index_or xs 3 d
-      → with_all (Some seen) (map f xs) ≡ with_all (with_one seen (half_space_in (f a) (f b) (f c) (f d))) (left xs)
-  unfolding with_all
+      → with_half_spaces (Some seen) (map f xs) ≡ with_half_spaces (with_half_space seen (half_space_in (f a) (f b) (f c) (f d))) (left xs)
+  unfolding with_half_spaces
   next [] a b c d many is_a is_b is_c is_d = absurd (omega (arith, many))
   next (x1 ∷ []) a b c d many is_a is_b is_c is_d = absurd (omega (arith, many))
   next (x1 ∷ x2 ∷ []) a b c d many is_a is_b is_c is_d = absurd (omega (arith, many))
@@ -29,11 +29,11 @@ module _ {X : Type 0} (f : X → List ℕ) (seen : PlanesSeen) where
       let same_c : c ≡ x3 = is_c in
       let same_d : d ≡ x4 = is_d in
       let fewer : length (x1 ∷ x2 ∷ x3 ∷ x4 ∷ xs) - 4 ≡ length xs = omega arith in
-      rw (same_a, same_b, same_c, same_d) (ap (λ (ws : List X). with_all (with_one seen (half_space_in (f x1) (f x2) (f x3) (f x4))) (map f ws)) (sym (ap (λ (n : ℕ). take n xs) fewer ∙ take-length xs)))
+      rw (same_a, same_b, same_c, same_d) (ap (λ (ws : List X). with_half_spaces (with_half_space seen (half_space_in (f x1) (f x2) (f x3) (f x4))) (map f ws)) (sym (ap (λ (n : ℕ). take n xs) fewer ∙ take-length xs)))
 
   -- where fewer than four are left, none may be
-  pub no_next : (xs : List X) (is_empty : Bool) → length xs < 4 → is_empty ≡ (length xs == 0) → then_some is_empty seen ≡ with_all (Some seen) (map f xs)
-  unfolding with_all
+  pub no_next : (xs : List X) (is_empty : Bool) → length xs < 4 → is_empty ≡ (length xs == 0) → then_some is_empty seen ≡ with_half_spaces (Some seen) (map f xs)
+  unfolding with_half_spaces
   no_next [] is_empty few is = rw is refl
   no_next (x1 ∷ []) is_empty few is = rw is refl
   no_next (x1 ∷ x2 ∷ []) is_empty few is = rw is refl
@@ -44,20 +44,20 @@ module _ {X : Type 0} (f : X → List ℕ) (seen : PlanesSeen) where
     abbrev spelt : Option HalfSpaceSeen
     spelt = half_space_in (f a) (f b) (f c) (f d)
 
-    pub next_none : spelt ≡ None → with_all (Some seen) (map f xs) ≡ None
-    unfolding with_all
-    next_none none = next xs a b c d many is_a is_b is_c is_d ∙ ap (λ (o : Option HalfSpaceSeen). with_all (with_one seen o) (left xs)) none
+    pub next_none : spelt ≡ None → with_half_spaces (Some seen) (map f xs) ≡ None
+    unfolding with_half_spaces
+    next_none none = next xs a b c d many is_a is_b is_c is_d ∙ ap (λ (o : Option HalfSpaceSeen). with_half_spaces (with_half_space seen o) (left xs)) none
 
-    pub next_over : (plane : HalfSpaceSeen) → spelt ≡ Some plane → has_room seen.planes ≡ false → with_all (Some seen) (map f xs) ≡ None
-    unfolding with_all
+    pub next_over : (plane : HalfSpaceSeen) → spelt ≡ Some plane → has_room seen.planes ≡ false → with_half_spaces (Some seen) (map f xs) ≡ None
+    unfolding with_half_spaces
     next_over plane some full =
-        next xs a b c d many is_a is_b is_c is_d ∙ ap (λ (o : Option HalfSpaceSeen). with_all (with_one seen o) (left xs)) some
-        ∙ ap (λ (room : Bool). with_all (if room then Some (with_plane seen plane) else no_planes) (left xs)) full
+        next xs a b c d many is_a is_b is_c is_d ∙ ap (λ (o : Option HalfSpaceSeen). with_half_spaces (with_half_space seen o) (left xs)) some
+        ∙ ap (λ (room : Bool). with_half_spaces (if room then Some (with_plane seen plane) else no_planes) (left xs)) full
 
-    pub next_some : (plane : HalfSpaceSeen) → spelt ≡ Some plane → has_room seen.planes ≡ true → with_all (Some seen) (map f xs) ≡ with_all (Some (with_plane seen plane)) (left xs)
+    pub next_some : (plane : HalfSpaceSeen) → spelt ≡ Some plane → has_room seen.planes ≡ true → with_half_spaces (Some seen) (map f xs) ≡ with_half_spaces (Some (with_plane seen plane)) (left xs)
     next_some plane some room =
-        next xs a b c d many is_a is_b is_c is_d ∙ ap (λ (o : Option HalfSpaceSeen). with_all (with_one seen o) (left xs)) some
-        ∙ ap (λ (free : Bool). with_all (if free then Some (with_plane seen plane) else no_planes) (left xs)) room
+        next xs a b c d many is_a is_b is_c is_d ∙ ap (λ (o : Option HalfSpaceSeen). with_half_spaces (with_half_space seen o) (left xs)) some
+        ∙ ap (λ (free : Bool). with_half_spaces (if free then Some (with_plane seen plane) else no_planes) (left xs)) room
 
 -- five words or fewer spell no view
 pub too_few_for_pick : {X : Type 0} (f : X → List ℕ) (xs : List X) → length xs < 6 → None ≡ pick_in (map f xs)

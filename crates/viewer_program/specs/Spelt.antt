@@ -2,7 +2,7 @@
 use Rattle.std.specs.Prelude.{ℕ, List, [], ◌∷◌, Option, Some, None, ℤ, codes, bytes_eq, if◌then◌else◌}
 use Rattle.grid_vertex.specs.declared.points.Point.{Point}
 use Rattle.number_words.specs.Numbers.{number_in, signed_in}
-use Rattle.round_model.specs.declared.limits.TheConstants.{EYE_REACH, GREATEST_FOCAL, GREATEST_THRESHOLD}
+use Rattle.round_model.specs.declared.limits.TheConstants.{GREATEST_FOCAL, GREATEST_THRESHOLD}
 use Rattle.round_model.specs.Views.{ViewSeen, view_of}
 use Rattle.view_planes.specs.declared.half_spaces.TheConstants as half_spaces
 use Rattle.ray_pick.specs.declared.rays.TheConstants.{FARTHEST, LONGEST}
@@ -43,22 +43,22 @@ abbrev pub half_space_in : List ℕ → List ℕ → List ℕ → List ℕ → O
 half_space_in a b c d = half_space_from (point_in half_spaces.STEEPEST a b c) (signed_in half_spaces.FARTHEST d)
 
 -- a half-space is put behind the others, where it is there and there is room
-abbrev pub with_one : PlanesSeen → Option HalfSpaceSeen → Option PlanesSeen
-with_one seen None = None
-with_one seen (Some plane) = if has_room seen.planes then Some (with_plane seen plane) else None
+abbrev pub with_half_space : PlanesSeen → Option HalfSpaceSeen → Option PlanesSeen
+with_half_space seen None = None
+with_half_space seen (Some plane) = if has_room seen.planes then Some (with_plane seen plane) else None
 
--- those that the words spell, four each, are put behind the others
-unfoldable pub with_all : Option PlanesSeen → List (List ℕ) → Option PlanesSeen
-with_all None words = None
-with_all (Some seen) [] = Some seen
-with_all (Some seen) (a ∷ b ∷ c ∷ d ∷ words) = with_all (with_one seen (half_space_in a b c d)) words
-with_all (Some seen) words = None
+-- those that the words spell, four words each, are put behind the others
+unfoldable pub with_half_spaces : Option PlanesSeen → List (List ℕ) → Option PlanesSeen
+with_half_spaces None words = None
+with_half_spaces (Some seen) [] = Some seen
+with_half_spaces (Some seen) (a ∷ b ∷ c ∷ d ∷ words) = with_half_spaces (with_half_space seen (half_space_in a b c d)) words
+with_half_spaces (Some seen) words = None
 
--- the view with the half-spaces that the words spell, one or more
+-- the view with the half-spaces that the words spell, one or more; there is room for six
 abbrev pub planes_in : Option ViewSeen → List (List ℕ) → Option PlanesSeen
 planes_in None words = None
 planes_in (Some view) [] = None
-planes_in (Some view) words = with_all (Some (record { view = view; planes = [] })) words
+planes_in (Some view) words = with_half_spaces (Some (record { view = view; planes = [] })) words
 
 -- the ray from a point on in a direction, where both are there and it is one
 abbrev pub ray_from : Option Point → Option Point → Option RaySeen

@@ -2,7 +2,7 @@
 
 ghost use Rattle.std.specs.Prelude.{◌≡◌, ◌<◌, ◌^◌, map, string_bytes, Some, option_map, IfSome, IsTrue};
 ghost use Rattle.file_model.specs.Rules.{is_version};
-ghost use Rattle.viewer_program.specs.Spelt.{version_in, point_in, view_in, half_space_in, with_all, planes_in, ray_from, ray_in};
+ghost use Rattle.viewer_program.specs.Spelt.{version_in, point_in, view_in, half_space_in, with_half_spaces, planes_in, ray_from, ray_in};
 
 use error_metric::View;
 use grid_vertex::Point;
@@ -56,7 +56,7 @@ pub fn read_half_space(a: &str, b: &str, c: &str, d: &str) -> Option<HalfSpace>
 
 // The planes with the half-spaces behind them that the words spell, four each.
 fn add_half_spaces(mut planes: Planes, words: &[String]) -> Option<Planes>
-    ensures { result ≡ with_all (Some planes) (map string_bytes words.now) }
+    ensures { result ≡ with_half_spaces (Some planes) (map string_bytes words.now) }
 {
     let mut rest = words;
     while let [a, b, c, d, others @ ..] = rest {

@@ -1,5 +1,5 @@
 -- The words of a command are none of a play, and none of a command over a strip.
-use Rattle.std.proofs.Common.{sym, ◌∙◌, map}
+use Rattle.std.proofs.Common.{sym, map}
 use Rattle.std.specs.Prelude.{string_bytes}
 use Rattle.viewer_program.proofs.PlayWords.{no_play, no_strip}
 use Rattle.viewer_program.proofs.run.run_still.Goals as goal

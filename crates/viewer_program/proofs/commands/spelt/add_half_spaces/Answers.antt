@@ -1,7 +1,6 @@
 -- Each four words add the next half-space, or end it.
-use Rattle.std.proofs.Common.{◌≡◌, Some, None, sym, ◌∙◌}
+use Rattle.std.proofs.Common.{sym, ◌∙◌}
 use Rattle.std.specs.Prelude.{string_bytes}
-use Rattle.viewer_program.specs.Spelt.{half_space_in}
 use Rattle.viewer_program.proofs.SpeltLemmas.{no_next, next_none, next_over, next_some}
 use Rattle.viewer_program.proofs.commands.spelt.add_half_spaces.Goals as goal
 
