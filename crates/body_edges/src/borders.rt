@@ -56,7 +56,7 @@ impl Border {
         }
     }
 
-    /// Finds the border of a body, in place of the one before. On want of memory it is that of no body.
+    /// Finds the border of a body, in place of the one before. On want of memory part of it stands there.
     pub fn find(&mut self, body: &Body) -> Result<(), NoMemory>
         ensures { OnOk result (IsBorderOf self.new body.now.lists) }
     {

@@ -1,6 +1,6 @@
 -- What is kept before any body was added.
-use Rattle.std.specs.Prelude.{◌≡◌, ℕ, ◌<◌, Bool, true, false, List, nat_lt, Option, refl, if◌then◌else◌}
-use Rattle.std.proofs.Common.{sym, ap, subst, arith}
+use Rattle.std.specs.Prelude.{◌≡◌, ℕ, ◌<◌, Bool, true, false, List, [], ◌∷◌, ◌++◌, length, nat_lt, Option, refl, if◌then◌else◌}
+use Rattle.std.proofs.Common.{sym, ap, ◌∙◌, subst, inl, inr, arith}
 use Rattle.std.proofs.lemmas.Bool.{le-ltb, and_right}
 use Rattle.file_model.specs.declared.fields.PatchField.{PatchField}
 use Rattle.file_model.specs.Lists.{BodyLists, IndexLists}
@@ -14,9 +14,10 @@ use Rattle.dag_check.specs.Added.{file_with}
 use Rattle.dag_check.specs.Borders.{HasBorderDifference}
 use Rattle.mesh_model.specs.Sides.{is_on}
 use Rattle.dag_check.specs.NodeSums.{taken_on, taken_both, to_come, inner_patches, empty_node_sums, chain_on, is_under_way, IsSum, AreNodeSums, NodeSumsFollow}
-use Rattle.dag_check.specs.AllNodeSums.{AllSumsSeen, IsNew, AreAllSums, IsCompared, AllSumsFollow}
+use Rattle.dag_check.specs.AllNodeSums.{AllSumsSeen, AreNew, IsNew, AreAllSums, IsCompared, AllSumsFollow}
 use Rattle.dag_check.proofs.AddedLaws.{first_triangles-zero, along}
 use Rattle.dag_check.proofs.CountLaws.{inner_has}
+use Rattle.dag_check.proofs.ListLaws.{push_read}
 use Rattle.dag_check.proofs.NodeSumLaws.{empty_net, empty_sum}
 use Rattle.dag_check.proofs.SumLaws.{sum_by_few}
 
@@ -34,6 +35,14 @@ new_sums_are fields v = record {
   dropped = λ _. record { incoming = refl; outgoing = refl };
   sums = λ s. new_sums (inner_patches fields v) (taken_on s (taken_both 0)) s;
 }
+
+-- one node's sums more
+pub new_push : (fields : List PatchField) (node_sums : List NodeSums) (t : NodeSums) → t ≡ empty_node_sums (inner_patches fields (length node_sums)) → AreNew fields node_sums → AreNew fields (node_sums ++ t ∷ [])
+new_push fields node_sums t here h v s at =
+    elim (push_read node_sums t v s at) [
+      | inl there ↦ h v s there
+      | inr e ↦ e.1 ∙ here ∙ ap (λ (n : ℕ). empty_node_sums (inner_patches fields n)) (sym e.0)
+    ]
 
 pub new_is : (index : IndexLists) (all_sums : AllSumsSeen) → IsNew index all_sums → AreAllSums index (taken_both 0) all_sums
 new_is index all_sums h = record {
