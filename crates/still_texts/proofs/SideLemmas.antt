@@ -3,7 +3,6 @@ use Rattle.std.proofs.Common.{◌≡◌, ℕ, zero, suc, ◌+◌, Some, List, []
 use Rattle.std.specs.Prelude.{slice_get}
 use Rattle.file_model.specs.declared.fields.Node.{Node}
 use Rattle.text_model.specs.Lines.{Adds}
-use Rattle.view_planes.specs.declared.half_spaces.Side.{Side}
 use Rattle.view_planes.specs.HalfSpaces.{HalfSpaceSeen, side_of}
 use Rattle.still_texts.specs.Sides.{side_line, side_lines, sides_of}
 

@@ -1,5 +1,5 @@
 -- The bodies of a granted round's frame are loaded, and the ray's first hit is told.
-use Rattle.std.proofs.Common.{map, refl, sym, ◌∙◌}
+use Rattle.std.proofs.Common.{map}
 use Rattle.std.specs.Arc.{arc_value}
 use Rattle.std.proofs.lemmas.Result.{err_from_is_err_and}
 use Rattle.mesh_model.specs.Meshes.{MeshLists}
@@ -28,4 +28,4 @@ returns-clause-told g c =
     let through : IsThrough round = record { whole = c.in_ok-round.ensures.whole; granted = c.in_ok-round.ensures.granted } in
     told_pick _ c.args.view.now c.args.ray.now c.args.mesh.now round (map arc_value c.in_ok-bodies.bodies.items) c.pick-found.result _ (rw c.limit.ensures at c.in_ok-round.ensures.rules) through
     (rw (c.index.ensures.value, c.patches.ensures.patches) at c.in_ok-bodies.ensures.told)
-    (rw (c.patches-2.ensures.patches, c.deref.ensures.value) at c.pick-found.ensures.picked) ?
+    (rw (c.patches-2.ensures.patches, c.deref.ensures.value) at c.pick-found.ensures.picked) c.in_ok-line_of_pick.ensures
