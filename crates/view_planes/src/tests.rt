@@ -5,13 +5,6 @@ use error_metric::View;
 use grid_vertex::{Ball, Point};
 use std::test::Fail;
 
-fn ball(x: i32, radius: u32) -> Ball {
-    Ball {
-        centre: Point { x, y: 0, z: 0 },
-        radius,
-    }
-}
-
 #[test]
 fn a_half_space_keeps_its_ranges(rt: HostRuntime) {
     for (a, b, c, d) in [
@@ -38,16 +31,17 @@ fn balls_beside_a_plane(rt: HostRuntime) -> Result<(), Fail> {
     let Some(plane) = HalfSpace::new(1, 0, 0, 10) else {
         return Err(Fail::from("no half-space"));
     };
-    for (x, radius, side) in [
-        (13, 3, Side::Front),
-        (12, 3, Side::Across),
-        (7, 3, Side::Across),
-        (6, 3, Side::Behind),
-        (10, 0, Side::Front),
-        (9, 0, Side::Behind),
-    ] {
-        assert_eq!(rt; plane.side(&ball(x, radius)), side);
-    }
+    let centre = Point { x: 13, y: 0, z: 0 };
+    let mut ball = Ball { centre, radius: 3 };
+    assert_eq!(rt; plane.side(&ball), Side::Front);
+    ball.centre.x = 12;
+    assert_eq!(rt; plane.side(&ball), Side::Across);
+    ball.centre.x = 7;
+    assert_eq!(rt; plane.side(&ball), Side::Across);
+    ball.centre.x = 6;
+    assert_eq!(rt; plane.side(&ball), Side::Behind);
+    ball.radius = 4;
+    assert_eq!(rt; plane.side(&ball), Side::Across);
     Ok(())
 }
 
