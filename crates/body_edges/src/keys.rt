@@ -83,7 +83,8 @@ pub fn push_keys(keys: &mut Vec<u64>, body: &Body) -> Result<(), NoMemory>
 pub fn drop_opposites(keys: &mut Vec<u64>)
     ensures net { HaveSameNet keys.new.items keys.old.items }
     ensures few { length keys.new.items ≤ length keys.old.items }
-    ensures all { (points : ℕ) → All (IsKey points) keys.old.items → All (IsKey points) keys.new.items }
+    ensures all { (points : ℕ) → All (IsKey points) keys.old.items
+        → All (IsKey points) keys.new.items }
 {
     let mut kept = 0;
     for place in 0..keys.len() {
