@@ -4,8 +4,8 @@
     tools/speed.py PROGRAM [FILE X Y Z FOCAL TAU LIMIT ..]
 
 PROGRAM is the built viewer (out/jichallay once the launcher has run). Each time is the least of several runs, in
-seconds: that on the clock, and the processor's (user and system). Beside them stand the greatest memory of the runs
-and their system calls, the latter where `strace` is there. Then come the growth shapes, at n and at 4n, and the ratio
+seconds: that on the clock, and the processor's (user and system). Beside them stand the greatest memory of a run and
+its system calls, where GNU `time` and `strace` are there. Then come the growth shapes, at n and at 4n, and the ratio
 of the processor times.
 """
 import os
@@ -24,20 +24,29 @@ ALL = "4294967295"
 
 
 def once(program, words):
-    """Seconds on the clock and of the processor, and kilobytes of memory, of one run."""
+    """Seconds on the clock and of the processor of one run."""
     begun = time.perf_counter()
     child = subprocess.Popen([program, *words], stdin=subprocess.DEVNULL, stdout=subprocess.DEVNULL)
     _, status, used = os.wait4(child.pid, 0)
     clock = time.perf_counter() - begun
     if os.waitstatus_to_exitcode(status) != 0:
         raise SystemExit(f"{' '.join(words)}: ended with {status}")
-    return clock, used.ru_utime + used.ru_stime, used.ru_maxrss
+    return clock, used.ru_utime + used.ru_stime
 
 
 def least(program, words):
-    """The least of several runs, each number by itself; of the memory the greatest."""
-    clocks, times, memory = zip(*(once(program, words) for _ in range(RUNS)))
-    return min(clocks), min(times), max(memory)
+    """The least of several runs, each number by itself."""
+    clocks, times = zip(*(once(program, words) for _ in range(RUNS)))
+    return min(clocks), min(times)
+
+
+def memory(program, words):
+    """The greatest memory of a run in megabytes, by GNU `time`, since a child of this script would count the script's."""
+    if not shutil.which("time"):
+        return "-"
+    ran = subprocess.run(["time", "-f", "%M", program, *words], stdin=subprocess.DEVNULL, stdout=subprocess.DEVNULL,
+                         stderr=subprocess.PIPE)
+    return f"{int(ran.stderr.decode().split()[-1]) / 1024:.1f}"
 
 
 def system_calls(program, words):
@@ -101,9 +110,9 @@ SHAPES = [many_into_a_node, chain_of_nodes, around_an_edge, root_to_sink]
 
 
 def tell(program, words, name):
-    clock, processor, memory = least(program, words)
-    calls = system_calls(program, words)
-    print(f"{name:34} {clock:8.3f} {processor:8.3f} {memory / 1024:8.1f} MB {calls:>8} calls", flush=True)
+    clock, processor = least(program, words)
+    kept, calls = memory(program, words), system_calls(program, words)
+    print(f"{name:34} {clock:8.3f} {processor:8.3f} {kept:>8} MB {calls:>8} calls", flush=True)
 
 
 def time_strip(program, folder):
