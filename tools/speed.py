@@ -41,7 +41,7 @@ def least(program, words):
 
 
 def memory(program, words):
-    """The greatest memory of a run in megabytes, by GNU `time`, since a child of this script would count the script's."""
+    """The greatest memory of a run in megabytes, by GNU `time`: a child of this script would count the script's own."""
     if not shutil.which("time"):
         return "-"
     ran = subprocess.run(["time", "-f", "%M", program, *words], stdin=subprocess.DEVNULL, stdout=subprocess.DEVNULL,
@@ -53,10 +53,9 @@ def system_calls(program, words):
     """How many calls of the system a run makes, as far as `strace` tells."""
     if not shutil.which("strace"):
         return "-"
-    ran = subprocess.run(["strace", "-f", "-c", program, *words], stdin=subprocess.DEVNULL, stdout=subprocess.DEVNULL,
-                         stderr=subprocess.PIPE)
-    total = [line.split() for line in ran.stderr.decode().splitlines() if line.endswith("total")]
-    return total[0][-2] if len(total[0]) < 5 else total[0][-3]
+    ran = subprocess.run(["strace", "-f", "-c", "-U", "calls,name", program, *words], stdin=subprocess.DEVNULL,
+                         stdout=subprocess.DEVNULL, stderr=subprocess.PIPE)
+    return next((line.split()[0] for line in ran.stderr.decode().splitlines() if line.endswith("total")), "-")
 
 
 def spelled(nodes, patches):
