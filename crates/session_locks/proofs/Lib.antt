@@ -1,3 +1,4 @@
+mod LockedLaws
 mod PassLaws
 mod PartLaws
 mod StepParts

@@ -62,6 +62,16 @@ kept_old None now r t locked flags there is many = absurd (cc)
 kept_old (Some q) None r t locked flags there is many = absurd (cc)
 kept_old (Some q) (Some u) r t locked flags there is many = ap (λ (n : ℕ). replicate n false) many
 
+set_many : (locked flags : List Bool) (p : ℕ) (value : Bool) → flags ≡ set locked p value → length flags ≡ length locked
+set_many locked flags p value is = ap (λ (f : List Bool). length f) is ∙ length-set locked p value
+
+flag_set_in : (locked flags : List Bool) (p : ℕ) (value : Bool) → p < length locked → flags ≡ set locked p value → SetAt (λ q. get_or locked q false) p value (λ q. get_or flags q false)
+flag_set_in locked flags p value within is = subst (λ (f : List Bool). SetAt (λ q. get_or locked q false) p value (λ q. get_or f q false)) (sym is) (flag_set locked p value within)
+
+none_there : (o : Option Refining) → o ≡ None → is_some o ≡ false
+none_there None is = refl
+none_there (Some r) is = absurd (cc)
+
 none_first : (flags : List Bool) → ((p : ℕ) → get_or flags p false ≡ false) → position (λ (old : Bool). old) flags ≡ None
 none_first flags down = by_place (position (λ (old : Bool). old) flags) refl
   where
@@ -211,13 +221,17 @@ module _ (mesh : MeshLists) (number : ℕ) (view : Option ViewSeen) (round : Opt
     pub old_below : (patches : ℕ) → length mesh.index.fields ≤ patches → p < patches
     old_below patches many = let within = old_within in omega (arith, parts.many)
 
-    pub unlocked_seen : session_seen mesh number view round printed (set locked p false) flight frames ≡ with_state seen (without_old state p)
-    unlocked_seen = ap (λ (flags : List Bool). session_of mesh number (record { view = view; round = round; printed = printed; leftover = flags; flight = flight; frames = frames })) (old_set round locked p without_round)
+    module _ (flags : List Bool) (unlocks : flags ≡ set locked p false) where
+      pub unlocked_seen : session_seen mesh number view round printed flags flight frames ≡ with_state seen (without_old state p)
+      unlocked_seen = ap (λ (old : List Bool). session_of mesh number (record { view = view; round = round; printed = printed; leftover = old; flight = flight; frames = frames })) (ap (old_of round) unlocks ∙ old_set round locked p without_round)
 
-    pub unlocked_parts : AreParts (session_seen mesh number view round printed (set locked p false) flight frames) (set locked p false)
-    unlocked_parts =
-        changed (without_old state p) (session_seen mesh number view round printed (set locked p false) flight frames) (set locked p false) parts unlocked_seen unlock.keeps (length-set locked p false)
-        (moves_by (λ q. get_or locked q false) (locks state) (λ q. get_or (set locked p false) q false) (locks (without_old state p)) p false parts.flags (flag_set locked p false old_within) unlock.does.locked)
+      pub unlocked_parts : AreParts (session_seen mesh number view round printed flags flight frames) flags
+      unlocked_parts =
+          changed (without_old state p) (session_seen mesh number view round printed flags flight frames) flags parts unlocked_seen unlock.keeps (set_many locked flags p false unlocks)
+          (moves_by (λ q. get_or locked q false) (locks state) (λ q. get_or flags q false) (locks (without_old state p)) p false parts.flags (flag_set_in locked flags p false old_within unlocks) unlock.does.locked)
+
+    pub least_locked : position (λ (old : Bool). old) locked ≡ Some p
+    least_locked = sym (least_without (none_there round without_round)) ∙ there
 
   -- ---- a round begins
 
@@ -252,24 +266,19 @@ module _ (mesh : MeshLists) (number : ℕ) (view : Option ViewSeen) (round : Opt
     pub tried_below : (patches : ℕ) → length mesh.index.fields ≤ patches → p < patches
     tried_below patches many = let within = tried_within in omega (arith, parts.many)
 
-    tried_seen_odd : (now : Option Refining) → now ≡ Some (after_answer asking.r p epoch) → session_seen mesh number view now printed (set locked p (is_odd epoch)) (cond (is_odd epoch) None (Some p)) frames ≡ with_state seen tried
-    unfolding after_try
-    tried_seen_odd now is =
-        ap (λ (flags : List Bool). session_of mesh number (record { view = view; round = now; printed = printed; leftover = flags; flight = cond (is_odd epoch) None (Some p); frames = frames }))
-        (kept_old round now asking.r (after_answer asking.r p epoch) locked (set locked p (is_odd epoch)) asking.there is (length-set locked p (is_odd epoch)))
-        ∙ ap (λ (o : Option Refining). session_of mesh number (record { view = view; round = o; printed = printed; leftover = old_of round locked; flight = cond (is_odd epoch) None (Some p); frames = frames })) is
-
-    module _ (now : Option Refining) (granted : Bool) (refused : Option ℕ) (answers : now ≡ Some (after_answer asking.r p epoch)) (grants : granted ≡ is_odd epoch) (refuses : refused ≡ cond (is_odd epoch) None (Some p)) where
-      pub tried_seen : session_seen mesh number view now printed (set locked p granted) refused frames ≡ with_state seen tried
+    module _ (now : Option Refining) (granted : Bool) (refused : Option ℕ) (flags : List Bool) (answers : now ≡ Some (after_answer asking.r p epoch)) (grants : granted ≡ is_odd epoch) (refuses : refused ≡ cond (is_odd epoch) None (Some p)) (sets : flags ≡ set locked p granted) where
+      pub tried_seen : session_seen mesh number view now printed flags refused frames ≡ with_state seen tried
+      unfolding after_try
       tried_seen =
-          ap (λ (b : Bool). session_seen mesh number view now printed (set locked p b) refused frames) grants
-          ∙ ap (λ (o : Option ℕ). session_seen mesh number view now printed (set locked p (is_odd epoch)) o frames) refuses
-          ∙ tried_seen_odd now answers
+          ap (λ (o : Option ℕ). session_seen mesh number view now printed flags o frames) refuses
+          ∙ ap (λ (old : List Bool). session_of mesh number (record { view = view; round = now; printed = printed; leftover = old; flight = cond (is_odd epoch) None (Some p); frames = frames }))
+          (kept_old round now asking.r (after_answer asking.r p epoch) locked flags asking.there answers (set_many locked flags p granted sets))
+          ∙ ap (λ (o : Option Refining). session_of mesh number (record { view = view; round = o; printed = printed; leftover = old_of round locked; flight = cond (is_odd epoch) None (Some p); frames = frames })) answers
 
-      pub tried_parts : AreParts (session_seen mesh number view now printed (set locked p granted) refused frames) (set locked p granted)
+      pub tried_parts : AreParts (session_seen mesh number view now printed flags refused frames) flags
       tried_parts =
-          changed tried (session_seen mesh number view now printed (set locked p granted) refused frames) (set locked p granted) parts tried_seen try.keeps (length-set locked p granted)
-          (moves_by (λ q. get_or locked q false) (locks state) (λ q. get_or (set locked p granted) q false) (locks tried) p granted parts.flags (flag_set locked p granted tried_within)
+          changed tried (session_seen mesh number view now printed flags refused frames) flags parts tried_seen try.keeps (set_many locked flags p granted sets)
+          (moves_by (λ q. get_or locked q false) (locks state) (λ q. get_or flags q false) (locks tried) p granted parts.flags (flag_set_in locked flags p granted tried_within sets)
           (subst (λ (b : Bool). SetAt (locks state) p b (locks tried)) (sym grants) try.does.locked))
 
   -- ---- a lock is given back
@@ -287,13 +296,14 @@ module _ (mesh : MeshLists) (number : ℕ) (view : Option ViewSeen) (round : Opt
     pub given_below : (patches : ℕ) → length mesh.index.fields ≤ patches → p < patches
     given_below patches many = let within = given_within in omega (arith, parts.many)
 
-    pub given_seen : (now : Option Refining) → now ≡ Some (after_release asking.r) → session_seen mesh number view now printed (set locked p false) flight frames ≡ with_state seen given
-    given_seen now is =
-        ap (λ (flags : List Bool). session_of mesh number (record { view = view; round = now; printed = printed; leftover = flags; flight = flight; frames = frames }))
-        (kept_old round now asking.r (after_release asking.r) locked (set locked p false) asking.there is (length-set locked p false))
-        ∙ ap (λ (o : Option Refining). session_of mesh number (record { view = view; round = o; printed = printed; leftover = old_of round locked; flight = flight; frames = frames })) is
+    module _ (now : Option Refining) (flags : List Bool) (given_is : now ≡ Some (after_release asking.r)) (unlocks : flags ≡ set locked p false) where
+      pub given_seen : session_seen mesh number view now printed flags flight frames ≡ with_state seen given
+      given_seen =
+          ap (λ (old : List Bool). session_of mesh number (record { view = view; round = now; printed = printed; leftover = old; flight = flight; frames = frames }))
+          (kept_old round now asking.r (after_release asking.r) locked flags asking.there given_is (set_many locked flags p false unlocks))
+          ∙ ap (λ (o : Option Refining). session_of mesh number (record { view = view; round = o; printed = printed; leftover = old_of round locked; flight = flight; frames = frames })) given_is
 
-    pub given_parts : (now : Option Refining) → now ≡ Some (after_release asking.r) → AreParts (session_seen mesh number view now printed (set locked p false) flight frames) (set locked p false)
-    given_parts now is =
-        changed given (session_seen mesh number view now printed (set locked p false) flight frames) (set locked p false) parts (given_seen now is) give.keeps (length-set locked p false)
-        (moves_by (λ q. get_or locked q false) (locks state) (λ q. get_or (set locked p false) q false) (locks given) p false parts.flags (flag_set locked p false given_within) give.does.locked)
+      pub given_parts : AreParts (session_seen mesh number view now printed flags flight frames) flags
+      given_parts =
+          changed given (session_seen mesh number view now printed flags flight frames) flags parts given_seen give.keeps (set_many locked flags p false unlocks)
+          (moves_by (λ q. get_or locked q false) (locks state) (λ q. get_or flags q false) (locks given) p false parts.flags (flag_set_in locked flags p false given_within unlocks) give.does.locked)

@@ -1,3 +1,4 @@
+pub mod LockedPatches
 pub mod Sessions
 pub mod Passes
 pub mod Taken

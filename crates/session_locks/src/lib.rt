@@ -4,6 +4,7 @@
 //! `docs/MODEL.md` tells a session's step. Sessions know the words by `Tokens` alone.
 #![tactic(auto)]
 
+mod locked_patches;
 mod sessions;
 
 pub use session_model::Stepped;

@@ -1,5 +1,6 @@
 //! Sessions.
 
+use crate::locked_patches::LockedPatches;
 use accepted_mesh::Mesh;
 use cut_refiner::Refiner;
 use error_metric::View;
@@ -16,8 +17,8 @@ pub struct Session<'m> {
     view: Option<View>,
     round: Option<Refiner<'m>>,
     is_printed: bool,
-    // Whether each patch is locked: by the round, or without one from earlier rounds.
-    locked: Vec<bool>,
+    // By the round, or without one from earlier rounds.
+    locked: LockedPatches,
     flight: Option<u32>,
     frames: u64,
 }
@@ -28,13 +29,13 @@ impl<'m> Model for Session<'m> {
     ghost Value = { SessionSeen };
 
     ghost view = { λ s.
-        session_seen s.mesh.now.lists s.number s.view s.round s.is_printed s.locked.items s.flight
+        session_seen s.mesh.now.lists s.number s.view s.round s.is_printed s.locked s.flight
         s.frames };
 
     ghost invariant = { λ s.
         AreParts
-        (session_seen s.mesh.now.lists s.number s.view s.round s.is_printed s.locked.items
-        s.flight s.frames) s.locked.items };
+        (session_seen s.mesh.now.lists s.number s.view s.round s.is_printed s.locked
+        s.flight s.frames) s.locked };
 }
 
 impl<'m> Session<'m> {
@@ -52,7 +53,7 @@ impl<'m> Session<'m> {
             (opened (length mesh.now.lists.index.fields))) }
     {
         let patches = mesh.index().patch_count() as usize;
-        let locked = vec![in alloc; false; patches]?;
+        let locked = LockedPatches::none_of(alloc, patches)?;
         Ok(Session {
             mesh,
             number,

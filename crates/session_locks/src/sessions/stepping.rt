@@ -1,7 +1,6 @@
 //! The steps of a session.
 
-ghost use Rattle.std.specs.Prelude.{◌≡◌, ◌≢◌, ℕ, ◌<◌, Bool, true, false, List, [], ◌∷◌, ◌++◌, length, Option, Some, None, IfOk, IfErr, if◌then◌else◌};
-ghost use Rattle.std.specs.List.{position};
+ghost use Rattle.std.specs.Prelude.{◌≡◌, ◌≢◌, ℕ, ◌<◌, true, false, List, [], ◌∷◌, ◌++◌, length, Option, Some, None, IfOk, IfErr, if◌then◌else◌};
 ghost use Rattle.file_model.specs.Tries.{is_odd};
 ghost use Rattle.round_model.specs.declared.asks.Ask.TheVariants.{Lock, GiveBack, Done};
 ghost use Rattle.round_model.specs.Views.{ViewSeen};
@@ -67,7 +66,7 @@ impl<'m> Session<'m> {
         if self.round.is_some() {
             return None;
         }
-        match first_locked(&self.locked) {
+        match self.locked.least() {
             Some(patch) => Some(patch as u32),
             None => None,
         }
@@ -99,7 +98,7 @@ impl<'m> Session<'m> {
     {
         let _flight = self.flight;
         tokens.unlock(pass, patch);
-        self.locked[patch as usize] = false;
+        self.locked.unlock_least(patch as usize);
     }
 
     /// The round of the view, at its start.
@@ -175,7 +174,7 @@ impl<'m> Session<'m> {
         let _flight = self.flight;
         let epoch = tokens.try_lock(pass, patch).epoch;
         tell(&mut self.round, epoch);
-        self.locked[patch as usize] = is_granted(epoch);
+        self.locked.set(patch as usize, is_granted(epoch));
         self.flight = refused(patch, epoch);
         epoch
     }
@@ -208,7 +207,7 @@ impl<'m> Session<'m> {
         let _flight = self.flight;
         tokens.unlock(pass, patch);
         tell_given(&mut self.round);
-        self.locked[patch as usize] = false;
+        self.locked.set(patch as usize, false);
     }
 
     /// A round begins, if there is none. Condition: no old lock is left.
@@ -312,13 +311,6 @@ impl<'m> Session<'m> {
         let _frames = self.frames;
         Ok(did)
     }
-}
-
-/// The first patch that is locked.
-fn first_locked(locked: &[bool]) -> Option<usize>
-    ensures { result ≡ position (λ (is_locked : Bool). is_locked) locked.now }
-{
-    locked.iter().position(|is_locked| *is_locked)
 }
 
 /// Tells the round the epoch that answers its try.

@@ -4,7 +4,7 @@ use Rattle.session_locks.proofs.PartLaws.{opened_parts, opened_seen}
 use Rattle.session_locks.proofs.sessions.Session.open.Goals as goal
 
 pub invariant_of-result : goal.invariant_of-result
-invariant_of-result c = opened_parts c.args.mesh.now.lists c.args.number c.patch_count-patches.result c.in_ok-locked.locked.items c.index.ensures.facts (c.in_ok-locked.ensures.items_if_clones_equal (λ flag same. same)) (c.patch_count-patches.ensures.value ∙ ap (λ (index : IndexLists). length index.fields) c.index.ensures.value)
+invariant_of-result c = opened_parts c.args.mesh.now.lists c.args.number c.patch_count-patches.result c.in_ok-locked.locked c.index.ensures.facts c.in_ok-locked.ensures (c.patch_count-patches.ensures.value ∙ ap (λ (index : IndexLists). length index.fields) c.index.ensures.value)
 
 pub returns : goal.returns
-returns c = opened_seen c.args.mesh.now.lists c.args.number c.patch_count-patches.result c.in_ok-locked.locked.items (c.in_ok-locked.ensures.items_if_clones_equal (λ flag same. same)) (c.patch_count-patches.ensures.value ∙ ap (λ (index : IndexLists). length index.fields) c.index.ensures.value)
+returns c = opened_seen c.args.mesh.now.lists c.args.number c.patch_count-patches.result c.in_ok-locked.locked c.in_ok-locked.ensures (c.patch_count-patches.ensures.value ∙ ap (λ (index : IndexLists). length index.fields) c.index.ensures.value)

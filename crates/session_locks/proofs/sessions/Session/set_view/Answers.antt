@@ -8,11 +8,11 @@ use Rattle.session_locks.proofs.sessions.Session.set_view.Goals as goal
 pub invariant_of-self : goal.invariant_of-self
 invariant_of-self c =
     let i = c.self.inside in
-    viewed_parts i.mesh.now.lists i.number i.view i.round i.is_printed i.locked.items i.flight i.frames c.args.view c.self.invariant
+    viewed_parts i.mesh.now.lists i.number i.view i.round i.is_printed i.locked i.flight i.frames c.args.view c.self.invariant
     (ap (λ (s : SessionSeen). s.state.round) (c.self.view_is ∙ c.end_round.ensures.state) ∙ ended_no_round c.args.self.now.state)
 
 pub returns-clause-state : goal.returns-clause-state
-returns-clause-state c = let i = c.self.inside in viewed_seen i.mesh.now.lists i.number i.view i.round i.is_printed i.locked.items i.flight i.frames c.args.view c.args.self.now (c.self.view_is ∙ c.end_round.ensures.state)
+returns-clause-state c = let i = c.self.inside in viewed_seen i.mesh.now.lists i.number i.view i.round i.is_printed i.locked i.flight i.frames c.args.view c.args.self.now (c.self.view_is ∙ c.end_round.ensures.state)
 
 pub returns-clause-same : goal.returns-clause-same
 returns-clause-same c =
