@@ -2,25 +2,27 @@
 """Runs each command that README.md shows, and fails where it doesn't print what stands there.
 
 A command is an indented line `$ ./jichallay WORDS` (with `< FILE` for what it reads), and what it prints is the indented
-lines behind it. The program is the one that `rt try` builds of the sources, so nothing has to be installed first. Files
-are named from the top of the repository.
+lines behind it. An indented line without `$` is run too, with a script of tools/ behind `|` and the file that it writes
+behind `>`, and has to end well. The program is the one that `rt try` builds of the sources, so nothing has to be
+installed first. Files are named from the top of the repository, or were written by a line before.
 """
 import pathlib
 import shlex
 import subprocess
 import sys
+import tempfile
 
 TOP = pathlib.Path(__file__).resolve().parent.parent
-START = "    $ ./jichallay "
+SHOWN, PLAIN = "    $ ./jichallay ", "    ./jichallay "
 
 
 def shown_runs(lines):
     """The commands with what is shown of each."""
     runs, shown = [], None
     for line in lines:
-        if line.startswith(START):
+        if line.startswith(SHOWN):
             shown = []
-            runs.append((line[len(START):], shown))
+            runs.append((line[len(SHOWN):], shown))
         elif shown is not None and line.startswith("    "):
             shown.append(line[4:])
         else:
@@ -28,29 +30,47 @@ def shown_runs(lines):
     return runs
 
 
-def in_place(word):
-    """A file of the repository by its whole name."""
-    return str(TOP / word) if (TOP / word).is_file() else word
+def in_place(word, folder=TOP):
+    """A file by its whole name: one of the folder, or of the repository."""
+    return next((str(it / word) for it in (folder, TOP) if (it / word).is_file()), word)
+
+
+def ran(words, script=b""):
+    """What the program prints, where it ends well."""
+    return subprocess.run(["rt", "try", "--", *words], cwd=TOP / "crates" / "viewer_program", input=script,
+                          stdout=subprocess.PIPE, stderr=subprocess.PIPE, check=True).stdout
 
 
 def printed(command):
-    """What the command prints to its standard output."""
+    """What a command prints to its standard output."""
     words, _, source = command.partition(" < ")
     script = (TOP / source).read_bytes() if source else b""
-    ran = subprocess.run(["rt", "try", "--", *map(in_place, shlex.split(words))], cwd=TOP / "crates" / "viewer_program",
-                         input=script, stdout=subprocess.PIPE, stderr=subprocess.PIPE)
-    return ran.stdout.decode().splitlines()
+    return ran(map(in_place, shlex.split(words)), script).decode().splitlines()
+
+
+def written(command, folder):
+    """Runs a command whose output goes through a script of tools/, if one is named, and into a file of the folder."""
+    left, _, target = command.partition(" > ")
+    words, _, script = left.partition(" | ")
+    found = ran([in_place(word, folder) for word in shlex.split(words)])
+    if script:
+        found = subprocess.run([sys.executable, TOP / script], input=found, stdout=subprocess.PIPE, check=True).stdout
+    (folder / target).write_bytes(found)
 
 
 def main():
-    runs = shown_runs((TOP / "README.md").read_text().splitlines())
-    wrong = 0
+    lines = (TOP / "README.md").read_text().splitlines()
+    runs, wrong = shown_runs(lines), 0
     for command, shown in runs:
         found = printed(command)
         if found != shown:
             wrong += 1
             print(f"README.md: `{command}` prints\n" + "\n".join(found), file=sys.stderr)
-    print(f"README.md: {len(runs) - wrong} commands print what is shown, {wrong} don't")
+    plain = [line[len(PLAIN):] for line in lines if line.startswith(PLAIN)]
+    with tempfile.TemporaryDirectory() as folder:
+        for command in plain:
+            written(command, pathlib.Path(folder))
+    print(f"README.md: {len(runs) - wrong} commands print what is shown, {wrong} don't, and {len(plain)} more end well")
     return 1 if wrong or not runs else 0
 
 
