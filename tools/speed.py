@@ -20,13 +20,15 @@ import time
 RUNS = 7
 COLUMNS = 16384
 STEPS = 16000
+VIEWS = 60
 ALL = "4294967295"
 
 
-def once(program, words):
-    """Seconds on the clock and of the processor of one run."""
+def once(program, words, script):
+    """Seconds on the clock and of the processor of one run that reads the script."""
     begun = time.perf_counter()
-    child = subprocess.Popen([program, *words], stdin=subprocess.DEVNULL, stdout=subprocess.DEVNULL)
+    with open(script, "rb") as source:
+        child = subprocess.Popen([program, *words], stdin=source, stdout=subprocess.DEVNULL)
     _, status, used = os.wait4(child.pid, 0)
     clock = time.perf_counter() - begun
     if os.waitstatus_to_exitcode(status) != 0:
@@ -34,27 +36,29 @@ def once(program, words):
     return clock, used.ru_utime + used.ru_stime
 
 
-def least(program, words):
+def least(program, words, script=os.devnull):
     """The least of several runs, each number by itself."""
-    clocks, times = zip(*(once(program, words) for _ in range(RUNS)))
+    clocks, times = zip(*(once(program, words, script) for _ in range(RUNS)))
     return min(clocks), min(times)
 
 
-def memory(program, words):
+def memory(program, words, script):
     """The greatest memory of a run in megabytes, by GNU `time`: a child of this script would count the script's own."""
     if not shutil.which("time"):
         return "-"
-    ran = subprocess.run(["time", "-f", "%M", program, *words], stdin=subprocess.DEVNULL, stdout=subprocess.DEVNULL,
-                         stderr=subprocess.PIPE)
+    with open(script, "rb") as source:
+        ran = subprocess.run(["time", "-f", "%M", program, *words], stdin=source, stdout=subprocess.DEVNULL,
+                             stderr=subprocess.PIPE)
     return f"{int(ran.stderr.decode().split()[-1]) / 1024:.1f}"
 
 
-def system_calls(program, words):
+def system_calls(program, words, script):
     """How many calls of the system a run makes, as far as `strace` tells."""
     if not shutil.which("strace"):
         return "-"
-    ran = subprocess.run(["strace", "-f", "-c", "-U", "calls,name", program, *words], stdin=subprocess.DEVNULL,
-                         stdout=subprocess.DEVNULL, stderr=subprocess.PIPE)
+    with open(script, "rb") as source:
+        ran = subprocess.run(["strace", "-f", "-c", "-U", "calls,name", program, *words], stdin=source,
+                             stdout=subprocess.DEVNULL, stderr=subprocess.PIPE)
     return next((line.split()[0] for line in ran.stderr.decode().splitlines() if line.endswith("total")), "-")
 
 
@@ -108,10 +112,16 @@ def root_to_sink(n):
 SHAPES = [many_into_a_node, chain_of_nodes, around_an_edge, root_to_sink]
 
 
-def tell(program, words, name):
-    clock, processor = least(program, words)
-    kept, calls = memory(program, words), system_calls(program, words)
+def tell(program, words, name, script=os.devnull):
+    clock, processor = least(program, words, script)
+    kept, calls = memory(program, words, script), system_calls(program, words, script)
     print(f"{name:34} {clock:8.3f} {processor:8.3f} {kept:>8} MB {calls:>8} calls", flush=True)
+
+
+def moving_view():
+    """A script in which a session's view moves along the strip, settles and prints a frame at each place."""
+    places = (f"view 1 {4 * COLUMNS * at // VIEWS} 2 400 1000 20 100000\nsettle\nframe 1\n" for at in range(VIEWS))
+    return "open 1\n" + "".join(places)
 
 
 def time_strip(program, folder):
@@ -128,6 +138,9 @@ def time_strip(program, folder):
     tell(program, ["sides", name, "1", "0", "0", str(2 * COLUMNS)], "sides, strip")
     tell(program, ["convert", name, "2"], "convert to version 2, strip")
     tell(program, ["bench", str(COLUMNS)], f"bench {COLUMNS}")
+    script = folder / "script.txt"
+    script.write_text(moving_view())
+    tell(program, ["play", name, str(300 * COLUMNS)], f"play, {VIEWS} views along the strip", str(script))
 
 
 def time_file(program, words):
@@ -148,7 +161,7 @@ def time_growth(program, folder):
 
 
 def main(words):
-    if not words or len(words) % 7 != 1:
+    if not words or words[0].startswith("-") or len(words) % 7 != 1:
         raise SystemExit(__doc__)
     program = str(pathlib.Path(words[0]).resolve())
     with tempfile.TemporaryDirectory() as made:
