@@ -3,8 +3,9 @@
 
 A command is an indented line `$ ./jichallay WORDS` (with `< FILE` for what it reads), and what it prints is the indented
 lines behind it. An indented line without `$` is run too, with a script of tools/ behind `|` and the file that it writes
-behind `>`, and has to end well. The program is the one that `rt try` builds of the sources, so nothing has to be
-installed first. Files are named from the top of the repository, or were written by a line before.
+behind `>`, and has to end well. The program is the one that `rt ci` built, or where a source has changed since, or
+there is none, the one that `rt try` builds for each command. Files are named from the top of the repository, or were
+written by a line before.
 """
 import pathlib
 import shlex
@@ -13,6 +14,8 @@ import sys
 import tempfile
 
 TOP = pathlib.Path(__file__).resolve().parent.parent
+FOLDER = TOP / "crates" / "viewer_program"
+PROGRAM = FOLDER / "out" / "viewer_program"
 SHOWN, PLAIN = "    $ ./jichallay ", "    ./jichallay "
 
 
@@ -35,10 +38,19 @@ def in_place(word, folder=TOP):
     return next((str(it / word) for it in (folder, TOP) if (it / word).is_file()), word)
 
 
+def is_fresh():
+    """Whether the program that `rt ci` built is there, and no source is newer."""
+    sources = [it for part in ("src", "specs", "proofs") for it in TOP.glob(f"crates/*/{part}/**/*")]
+    return PROGRAM.is_file() and all(it.stat().st_mtime <= PROGRAM.stat().st_mtime for it in sources)
+
+
+START = [PROGRAM] if is_fresh() else ["rt", "try", "--"]
+
+
 def ran(words, script=b""):
     """What the program prints, where it ends well."""
-    return subprocess.run(["rt", "try", "--", *words], cwd=TOP / "crates" / "viewer_program", input=script,
-                          stdout=subprocess.PIPE, stderr=subprocess.PIPE, check=True).stdout
+    return subprocess.run([*START, *words], cwd=FOLDER, input=script, stdout=subprocess.PIPE, stderr=subprocess.PIPE,
+                          check=True).stdout
 
 
 def printed(command):

@@ -1,7 +1,7 @@
 #!/usr/bin/env python3
 """Makes a mesh of each sample's finest frame, and fails where the mesh isn't the frame.
 
-The program is the one that `rt try` builds, and the mesh is what `tools/frame_to_obj.py` makes. It has to have the
+The program is that of `tools/readme_runs.py`, and the mesh is what `tools/frame_to_obj.py` makes. It has to have the
 frame's triangles, in their order, and the open edges that the frame and the sample's accepted line tell of.
 """
 import collections
