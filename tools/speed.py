@@ -21,6 +21,9 @@ RUNS = 7
 COLUMNS = 16384
 STEPS = 16000
 VIEWS = 60
+OTHERS = 63
+IDLE_TURNS = 6000
+SWINGS = 8
 ALL = "4294967295"
 
 
@@ -118,10 +121,33 @@ def tell(program, words, name, script=os.devnull):
     print(f"{name:34} {clock:8.3f} {processor:8.3f} {kept:>8} MB {calls:>8} calls", flush=True)
 
 
+def turns_without_a_candidate():
+    """A view that wants all is posted, and turns of the top tier find nothing in the tier below it, which has none."""
+    return "open 1\nview 1 0 2 0 65536 1 4294967295\n" + "turn 0\n" * IDLE_TURNS
+
+
+def views_of_many(moves):
+    """64 sessions have views along the strip, and the last one's moves so often."""
+    posted = "".join(f"open {i}\nview {i} {1000 * i} 2 400 1000 20 100000\n" for i in range(1, OTHERS + 2))
+    return posted + "".join(f"view {OTHERS + 1} {500 * i} 2 400 1000 20 100000\n" for i in range(moves))
+
+
+def swinging_view(swings):
+    """A view goes from one end of the strip to the other, and a tier that holds half of it settles at each."""
+    ends = (f"view 1 {4 * COLUMNS * (at % 2)} 2 0 65536 1 4294967295\nsettle\n" for at in range(swings))
+    return "open 1\n" + "".join(ends)
+
+
 def moving_view():
     """A script in which a session's view moves along the strip, settles and prints a frame at each place."""
     places = (f"view 1 {4 * COLUMNS * at // VIEWS} 2 400 1000 20 100000\nsettle\nframe 1\n" for at in range(VIEWS))
     return "open 1\n" + "".join(places)
+
+
+def tell_play(program, folder, words, name, text):
+    script = folder / "script.txt"
+    script.write_text(text)
+    tell(program, ["play", *words], name, str(script))
 
 
 def time_strip(program, folder):
@@ -138,9 +164,14 @@ def time_strip(program, folder):
     tell(program, ["sides", name, "1", "0", "0", str(2 * COLUMNS)], "sides, strip")
     tell(program, ["convert", name, "2"], "convert to version 2, strip")
     tell(program, ["bench", str(COLUMNS)], f"bench {COLUMNS}")
-    script = folder / "script.txt"
-    script.write_text(moving_view())
-    tell(program, ["play", name, str(300 * COLUMNS)], f"play, {VIEWS} views along the strip", str(script))
+    whole, half = str(300 * COLUMNS), str(150 * COLUMNS)
+    tell_play(program, folder, [name, whole], f"play, {VIEWS} views along the strip", moving_view())
+    tell_play(program, folder, [name, whole, whole], f"play, {IDLE_TURNS} turns without a candidate",
+              turns_without_a_candidate())
+    for moves in (0, 60):
+        tell_play(program, folder, [name, whole], f"play, 64 views and {moves} more", views_of_many(moves))
+    for swings in (SWINGS, 4 * SWINGS):
+        tell_play(program, folder, [name, half], f"play, {swings} settlings of half the strip", swinging_view(swings))
 
 
 def time_file(program, words):
