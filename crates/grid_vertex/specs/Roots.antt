@@ -1,4 +1,4 @@
--- The whole root of a number.
+-- The integer square root of a number.
 use Rattle.std.specs.Prelude.{ℕ, zero, suc, ◌*◌, nat_le, if◌then◌else◌}
 
 -- the greatest number up to most whose square is at most n

@@ -1,4 +1,4 @@
-//! Points, balls and triangles with whole coordinates, and the whole root.
+//! Points, balls and triangles with whole coordinates, and the integer square root.
 //!
 //! All coordinates are in the units of the patch file. `docs/MODEL.md` says what each rule is for.
 #![tactic(auto)]

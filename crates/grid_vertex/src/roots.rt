@@ -1,4 +1,4 @@
-//! The whole root of a number.
+//! The integer square root of a number.
 
 ghost use Rattle.std.specs.Prelude.{◌≡◌, ℕ, ◌*◌, ◌≤◌};
 ghost use Rattle.grid_vertex.specs.Roots.{root_of};

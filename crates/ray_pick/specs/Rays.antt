@@ -5,7 +5,7 @@ use Rattle.grid_vertex.specs.declared.points.Point.{Point}
 use Rattle.grid_vertex.specs.declared.triangles.Triangle.{Triangle}
 use Rattle.grid_vertex.specs.Points.{is_point_within}
 use Rattle.ray_pick.specs.declared.vectors.Vector.{Vector}
-use Rattle.ray_pick.specs.declared.rays.TheConstants.{FARTHEST, LONGEST}
+use Rattle.ray_pick.specs.declared.rays.TheConstants.{ORIGIN_REACH, DIRECTION_REACH}
 
 -- from a point on in a direction
 pub record RaySeen : Type 0 where
@@ -18,7 +18,7 @@ is_nought p = int_eq p.x (pos 0) && int_eq p.y (pos 0) && int_eq p.z (pos 0)
 
 -- the numbers are in their ranges, and the direction isn't 0
 abbrev pub is_ray : Point → Point → Bool
-is_ray origin direction = is_point_within FARTHEST origin && is_point_within LONGEST direction && not (is_nought direction)
+is_ray origin direction = is_point_within ORIGIN_REACH origin && is_point_within DIRECTION_REACH direction && not (is_nought direction)
 
 -- the ray of numbers in their ranges, and none of others
 abbrev pub ray_of : Point → Point → Option RaySeen

@@ -19,7 +19,7 @@ mod vectors;
 
 pub use crossings::hit_triangle;
 pub use picks::{Hit, pick};
-pub use rays::{FARTHEST, LONGEST, Ray};
+pub use rays::{ORIGIN_REACH, DIRECTION_REACH, Ray};
 
 /// A triangle is hit at one fraction.
 pub fn a_triangle_is_hit_once()

@@ -8,10 +8,10 @@ use grid_vertex::Point;
 use std::marker::Model;
 
 /// How far from 0 a coordinate of an origin is at most.
-pub const FARTHEST: u32 = 2_097_152;
+pub const ORIGIN_REACH: u32 = 2_097_152;
 
 /// How far from 0 a coordinate of a direction is at most.
-pub const LONGEST: u32 = 1_024;
+pub const DIRECTION_REACH: u32 = 1_024;
 
 /// A half-line from an origin on in a direction.
 #[derive(Clone, Copy, Debug, PartialEq, Eq)]
@@ -35,16 +35,16 @@ impl Model for Ray {
 
 // Whether each coordinate is in an origin's range.
 fn is_near(point: Point) -> bool
-    ensures { result ≡ is_point_within FARTHEST point }
+    ensures { result ≡ is_point_within ORIGIN_REACH point }
 {
-    is_on_axis(FARTHEST, point.x) && is_on_axis(FARTHEST, point.y) && is_on_axis(FARTHEST, point.z)
+    is_on_axis(ORIGIN_REACH, point.x) && is_on_axis(ORIGIN_REACH, point.y) && is_on_axis(ORIGIN_REACH, point.z)
 }
 
 // Whether each coordinate is in a direction's range.
 fn is_short(point: Point) -> bool
-    ensures { result ≡ is_point_within LONGEST point }
+    ensures { result ≡ is_point_within DIRECTION_REACH point }
 {
-    is_on_axis(LONGEST, point.x) && is_on_axis(LONGEST, point.y) && is_on_axis(LONGEST, point.z)
+    is_on_axis(DIRECTION_REACH, point.x) && is_on_axis(DIRECTION_REACH, point.y) && is_on_axis(DIRECTION_REACH, point.z)
 }
 
 // Whether the coordinate is in -limit to limit.

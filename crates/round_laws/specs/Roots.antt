@@ -1,4 +1,4 @@
--- The whole root of a number lies between two squares, and whole roots of squared distances keep the
+-- The integer square root of a number lies between two squares, and integer square roots of squared distances keep the
 -- triangle inequality: from one point to two others they differ by no more than those are apart.
 use Rattle.std.proofs.Common.{◌≡◌, ℕ, zero, suc, ◌+◌, ◌-◌, ◌*◌, ◌<◌, ◌≤◌, subst, arith, inl, inr}
 use Rattle.std.proofs.lemmas.Bool.{le-leb, lt-leb, cases_lt}

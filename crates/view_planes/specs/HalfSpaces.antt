@@ -5,7 +5,7 @@ use Rattle.grid_vertex.specs.declared.balls.Ball.{Ball}
 use Rattle.grid_vertex.specs.Points.{is_within, is_point_within, square}
 use Rattle.view_planes.specs.declared.half_spaces.Side.{Side}
 use Rattle.view_planes.specs.declared.half_spaces.Side.TheVariants.{Front, Across, Behind}
-use Rattle.view_planes.specs.declared.half_spaces.TheConstants.{STEEPEST, FARTHEST}
+use Rattle.view_planes.specs.declared.half_spaces.TheConstants.{NORMAL_REACH, LEVEL_REACH}
 
 -- the points p with normal * p at least `level`
 pub record HalfSpaceSeen : Type 0 where
@@ -18,7 +18,7 @@ normal_squared n = square (unsigned_abs n.x) + square (unsigned_abs n.y) + squar
 
 -- the numbers are in their ranges, and the normal isn't 0
 abbrev pub is_half_space : Point → ℤ → Bool
-is_half_space normal level = is_point_within STEEPEST normal && is_within FARTHEST level && nat_lt 0 (normal_squared normal)
+is_half_space normal level = is_point_within NORMAL_REACH normal && is_within LEVEL_REACH level && nat_lt 0 (normal_squared normal)
 
 -- the half-space of numbers in their ranges, and none of others
 abbrev pub half_space_of : Point → ℤ → Option HalfSpaceSeen

@@ -8,10 +8,10 @@ use grid_vertex::{Ball, Point};
 use std::marker::Model;
 
 /// How far from 0 a coordinate of a normal is at most.
-pub const STEEPEST: u32 = 1_024;
+pub const NORMAL_REACH: u32 = 1_024;
 
 /// How far from 0 a level is at most.
-pub const FARTHEST: u64 = 8_589_934_592;
+pub const LEVEL_REACH: u64 = 8_589_934_592;
 
 /// The points p with `normal * p >= level`. Its boundary is a plane.
 #[derive(Clone, Copy, Debug, PartialEq, Eq)]
@@ -52,24 +52,24 @@ pub enum Side {
 }
 
 // Whether the coordinate is in a normal's range.
-fn is_gentle(coordinate: i32) -> bool
-    ensures { result ≡ is_within STEEPEST coordinate }
+fn is_in_reach(coordinate: i32) -> bool
+    ensures { result ≡ is_within NORMAL_REACH coordinate }
 {
-    coordinate.unsigned_abs() <= STEEPEST
+    coordinate.unsigned_abs() <= NORMAL_REACH
 }
 
 // Whether each coordinate is in a normal's range.
 fn is_normal(point: Point) -> bool
-    ensures { result ≡ is_point_within STEEPEST point }
+    ensures { result ≡ is_point_within NORMAL_REACH point }
 {
-    is_gentle(point.x) && is_gentle(point.y) && is_gentle(point.z)
+    is_in_reach(point.x) && is_in_reach(point.y) && is_in_reach(point.z)
 }
 
 // Whether the level is in its range.
 fn is_level(level: i64) -> bool
-    ensures { result ≡ is_within FARTHEST level }
+    ensures { result ≡ is_within LEVEL_REACH level }
 {
-    level.unsigned_abs() <= FARTHEST
+    level.unsigned_abs() <= LEVEL_REACH
 }
 
 // The square of a coordinate of a normal.
@@ -84,7 +84,7 @@ fn coordinate_squared(coordinate: i32) -> u64
 
 // The square of a normal's length.
 fn length_squared(normal: Point) -> u64
-    requires { IsTrue (is_point_within STEEPEST normal) }
+    requires { IsTrue (is_point_within NORMAL_REACH normal) }
     ensures value { result ≡ normal_squared normal }
     ensures bound { result ≤ 3145728 }
 {
@@ -123,7 +123,7 @@ fn difference(a: i64, b: i64) -> i64
 
 // The product of a normal and a point of the grid.
 fn dot_product(normal: Point, point: Point) -> i64
-    requires normal { IsTrue (is_point_within STEEPEST normal) }
+    requires normal { IsTrue (is_point_within NORMAL_REACH normal) }
     requires point { IsTrue (is_in_grid point) }
     ensures value { result ≡ dot normal point }
     ensures bound { unsigned_abs result ≤ 3221225472 }

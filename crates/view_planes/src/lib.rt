@@ -21,7 +21,7 @@ ghost use Rattle.view_planes.specs.CulledCuts.{IsGranted};
 mod half_spaces;
 mod planes;
 
-pub use half_spaces::{FARTHEST, HalfSpace, STEEPEST, Side};
+pub use half_spaces::{LEVEL_REACH, HalfSpace, NORMAL_REACH, Side};
 pub use planes::Planes;
 
 #[cfg(test)]

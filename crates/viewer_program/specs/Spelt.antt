@@ -5,7 +5,7 @@ use Rattle.number_words.specs.Numbers.{number_in, signed_in}
 use Rattle.round_model.specs.declared.limits.TheConstants.{GREATEST_FOCAL, GREATEST_THRESHOLD}
 use Rattle.round_model.specs.Views.{ViewSeen, view_of}
 use Rattle.view_planes.specs.declared.half_spaces.TheConstants as half_spaces
-use Rattle.ray_pick.specs.declared.rays.TheConstants.{FARTHEST, LONGEST}
+use Rattle.ray_pick.specs.declared.rays.TheConstants.{ORIGIN_REACH, DIRECTION_REACH}
 use Rattle.view_planes.specs.HalfSpaces.{HalfSpaceSeen, half_space_of}
 use Rattle.view_planes.specs.Planes.{PlanesSeen, has_room, with_plane}
 use Rattle.ray_pick.specs.Rays.{RaySeen, ray_of}
@@ -40,7 +40,7 @@ half_space_from normal level = None
 
 -- the half-space that four words spell
 abbrev pub half_space_in : List ℕ → List ℕ → List ℕ → List ℕ → Option HalfSpaceSeen
-half_space_in a b c d = half_space_from (point_in half_spaces.STEEPEST a b c) (signed_in half_spaces.FARTHEST d)
+half_space_in a b c d = half_space_from (point_in half_spaces.NORMAL_REACH a b c) (signed_in half_spaces.LEVEL_REACH d)
 
 -- a half-space is put behind the others, where it is there and there is room
 abbrev pub with_half_space : PlanesSeen → Option HalfSpaceSeen → Option PlanesSeen
@@ -67,5 +67,5 @@ ray_from origin direction = None
 
 -- the ray that the words spell, its origin first
 abbrev pub ray_in : List (List ℕ) → Option RaySeen
-ray_in (x ∷ y ∷ z ∷ to_x ∷ to_y ∷ to_z ∷ []) = ray_from (point_in FARTHEST x y z) (point_in LONGEST to_x to_y to_z)
+ray_in (x ∷ y ∷ z ∷ to_x ∷ to_y ∷ to_z ∷ []) = ray_from (point_in ORIGIN_REACH x y z) (point_in DIRECTION_REACH to_x to_y to_z)
 ray_in words = None

@@ -7,9 +7,9 @@ ghost use Rattle.viewer_program.specs.Spelt.{version_in, point_in, view_in, half
 use error_metric::View;
 use grid_vertex::Point;
 use number_words::{read_number, read_signed, read_wide_signed};
-use ray_pick::{FARTHEST as ORIGIN_REACH, LONGEST, Ray};
+use ray_pick::{DIRECTION_REACH, ORIGIN_REACH, Ray};
 use round_model::{GREATEST_FOCAL, GREATEST_THRESHOLD};
-use view_planes::{FARTHEST, HalfSpace, Planes, STEEPEST};
+use view_planes::{HalfSpace, LEVEL_REACH, NORMAL_REACH, Planes};
 
 /// The version that a word spells.
 pub fn read_version(word: &str) -> Option<u16>
@@ -49,8 +49,8 @@ pub fn read_view(eye: Option<Point>, focal: &str, threshold: &str, limit: &str) 
 pub fn read_half_space(a: &str, b: &str, c: &str, d: &str) -> Option<HalfSpace>
     ensures { result ≡ half_space_in a.now b.now c.now d.now }
 {
-    let normal = read_point(STEEPEST, a, b, c)?;
-    let level = read_wide_signed(d.as_bytes(), FARTHEST)?;
+    let normal = read_point(NORMAL_REACH, a, b, c)?;
+    let level = read_wide_signed(d.as_bytes(), LEVEL_REACH)?;
     HalfSpace::new(normal.x, normal.y, normal.z, level)
 }
 
@@ -96,7 +96,7 @@ pub fn read_ray(words: &[String]) -> Option<Ray>
     match words {
         [x, y, z, to_x, to_y, to_z] => {
             let origin = read_point(ORIGIN_REACH, x.as_str(), y.as_str(), z.as_str());
-            let direction = read_point(LONGEST, to_x.as_str(), to_y.as_str(), to_z.as_str());
+            let direction = read_point(DIRECTION_REACH, to_x.as_str(), to_y.as_str(), to_z.as_str());
             ray_from(origin, direction)
         }
         _ => None,
