@@ -12,4 +12,4 @@ mod refusals;
 pub use faults::FileFault;
 pub use fields::{Node, PatchField, Try, is_granted};
 pub use limits::{MOST_IN_PATCH, MOST_NODES, MOST_PATCHES};
-pub use refusals::{ReadRefusal, WriteFault};
+pub use refusals::ReadRefusal;

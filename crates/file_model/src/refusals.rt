@@ -41,7 +41,3 @@ impl From<NoMemory> for ReadRefusal {
         ReadRefusal::Memory
     }
 }
-
-/// The sink failed before all was written.
-#[derive(Clone, Copy, Debug, PartialEq, Eq)]
-pub struct WriteFault;

@@ -1,4 +1,4 @@
-//! Writes frames and other lines of text, and hands texts to a sink.
+//! Spells frames and other lines of text.
 //!
 //! `docs/TEXTS.md` tells everything that is printed.
 #![tactic(auto)]
@@ -12,14 +12,12 @@ mod parts;
 mod point_texts;
 mod refused;
 mod words;
-mod writing;
 
 pub use faults::add_file_fault;
 pub use frames::frame_text;
 pub use lines::{add_line, add_part, add_parts, begin_line, end_line, line_text};
 pub use parts::Part;
 pub use refused::undo_if_refused;
-pub use writing::write_text;
 
 #[cfg(test)]
 mod tests;

@@ -1,14 +1,12 @@
 //! The frame of one square, lines of each part, and a sink that gets full.
 
-use crate::{
-    Part, add_line, add_part, add_parts, begin_line, end_line, frame_text, line_text, write_text,
-};
+use crate::{Part, add_line, add_part, add_parts, begin_line, end_line, frame_text, line_text};
 use grid_vertex::Point;
-use patch_file::{Body, Try, WriteFault};
+use patch_file::{Body, Try};
 use sample_files::SQUARE_BASE;
 use std::sync::Arc;
 use std::test::Fail;
-use view_outside::MemorySink;
+use view_outside::{MemorySink, WriteFault, write_all};
 
 #[test]
 #[tactic(auto, unfolding(file_model::specs::Rules::is_body, file_model::specs::Lists::triangle_of, file_model::specs::Lists::point_at_place, grid_vertex::specs::Triangles::is_flat_triangle))]
@@ -68,12 +66,12 @@ fn a_full_sink(rt: HostRuntime) -> Result<(), Fail> {
     let alloc = rt.alloc();
     let mut sink = MemorySink::with_room(alloc, 10, 7, Vec::new(alloc))?;
     assert_eq!(rt;
-        write_text(SQUARE_BASE.as_bytes(), &mut sink),
+        write_all(SQUARE_BASE.as_bytes(), &mut sink),
         Err(WriteFault)
     );
     assert_eq!(rt; sink.bytes(), b"frame 0 1 ".as_slice());
     let mut sink = MemorySink::with_room(alloc, 200, 7, Vec::new(alloc))?;
-    assert_eq!(rt; write_text(SQUARE_BASE.as_bytes(), &mut sink), Ok(()));
+    assert_eq!(rt; write_all(SQUARE_BASE.as_bytes(), &mut sink), Ok(()));
     assert_eq!(rt; sink.bytes(), SQUARE_BASE.as_bytes());
     Ok(())
 }

@@ -17,4 +17,5 @@ pub record IsHeader (header : Header) : Type 0 where
 
 -- the bytes of a header with these numbers
 abbrev pub header_spelling : ℕ → ℕ → ℕ → List ℕ
-header_spelling version nodes patches = magic ++ (number_text 2 version ++ (number_text 2 0 ++ (number_text 4 nodes ++ number_text 4 patches)))
+header_spelling version nodes patches =
+    magic ++ (number_text 2 version ++ (number_text 2 0 ++ (number_text 4 nodes ++ number_text 4 patches)))

@@ -4,6 +4,6 @@ pub mod Headers
 pub mod Offsets
 pub mod IndexState
 pub mod BodyRead
-pub mod Written
+pub mod Batches
 pub mod PartsState
 pub mod PartsView

@@ -20,7 +20,11 @@ with_node parts node = record {
 -- a patch more
 abbrev pub with_patch : FileLists → PatchField → BodyLists → FileLists
 with_patch parts field body = record {
-  index = record { version = parts.index.version; nodes = parts.index.nodes; fields = parts.index.fields ++ field ∷ [] };
+  index = record {
+    version = parts.index.version;
+    nodes = parts.index.nodes;
+    fields = parts.index.fields ++ field ∷ [];
+  };
   bodies = parts.bodies ++ body ∷ [];
 }
 

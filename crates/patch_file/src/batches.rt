@@ -2,13 +2,12 @@
 
 ghost use Rattle.std.specs.Prelude.{◌≡◌, ◌+◌, ◌≤◌, [], ◌++◌, length, OnOk, OnErr};
 ghost use Rattle.view_outside.specs.Faults.{Rose};
-ghost use Rattle.patch_file.specs.Written.{Wrote, Sends};
+ghost use Rattle.view_outside.specs.Written.{Wrote};
+ghost use Rattle.patch_file.specs.Batches.{Sends};
 ghost use Rattle.patch_file.specs.declared.batches.TheConstants.{ROOM};
 
-use crate::sending::write_all;
-use file_model::WriteFault;
 use std::marker::Model;
-use view_outside::Sink;
+use view_outside::{Sink, WriteFault, write_all};
 
 /// How many bytes wait at most.
 const ROOM: usize = 4096;

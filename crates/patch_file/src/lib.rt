@@ -10,18 +10,16 @@ mod index;
 mod parts;
 mod readers;
 mod reading;
-mod sending;
 mod sizes;
 mod spelling;
 mod units;
 mod writing;
 
-pub use file_model::{FileFault, Node, PatchField, ReadRefusal, Try, WriteFault};
+pub use file_model::{FileFault, Node, PatchField, ReadRefusal, Try};
 pub use index::Index;
 pub use parts::FileParts;
 pub use patch_body::Body;
 pub use readers::{read_body, read_end, read_index};
-pub use sending::write_all;
 pub use writing::write_file;
 
 #[cfg(test)]

@@ -9,7 +9,7 @@ use super::*;
 use grid_vertex::{Ball, NoMemory, Point, Triangle};
 use std::alloc::{AllocError, Global};
 use std::test::Fail;
-use view_outside::{Failed, MemorySink, MemoryStore, NamedFile, Store};
+use view_outside::{Failed, MemorySink, MemoryStore, NamedFile, Store, WriteFault};
 
 /// The sample in version 1.
 fn sample() -> [u8; 244] {

@@ -5,14 +5,15 @@ ghost use Rattle.std.specs.List.{flat_map};
 ghost use Rattle.file_model.specs.Spelling.{node_text, field_text, index_text, file_text};
 ghost use Rattle.file_model.specs.Rules.{IsIndex, IsPatchFile};
 ghost use Rattle.view_outside.specs.Faults.{Rose};
-ghost use Rattle.patch_file.specs.Written.{Wrote, Sends};
+ghost use Rattle.view_outside.specs.Written.{Wrote};
+ghost use Rattle.patch_file.specs.Batches.{Sends};
 
 use crate::batches::Batch;
 use crate::parts::FileParts;
 use crate::spelling::{field_bytes, header_bytes, node_bytes};
-use file_model::{Node, PatchField, WriteFault};
+use file_model::{Node, PatchField};
 use patch_body::Body;
-use view_outside::Sink;
+use view_outside::{Sink, WriteFault};
 
 /// Writes the patch file of these parts, or a proper beginning of it where the sink fails.
 pub fn write_file<O: Sink>(parts: &FileParts, sink: &mut O) -> Result<(), WriteFault>

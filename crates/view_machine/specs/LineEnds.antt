@@ -1,7 +1,7 @@
 -- How a line ends: what it did and printed, or why the run stops.
 use Rattle.std.specs.Prelude.{◌≡◌, ℕ, ◌+◌, ◌^◌, ◌<◌, ◌≤◌, List, Option, None, Some}
 use Rattle.std.specs.Option.{option_map_or}
-use Rattle.patch_file.specs.Written.{WritesPart}
+use Rattle.view_outside.specs.Written.{WritesPart}
 use Rattle.round_model.specs.Views.{ViewSeen}
 use Rattle.script_model.specs.declared.orders.Order.{Order}
 use Rattle.script_model.specs.declared.stages.SessionStage.{SessionStage}

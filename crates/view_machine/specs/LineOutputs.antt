@@ -14,7 +14,7 @@ use Rattle.tier_model.specs.Tiers.{TierState}
 use Rattle.view_outside.specs.Faults.{Rose}
 use Rattle.view_outside.specs.Files.{Named}
 use Rattle.view_outside.specs.Streams.{appended}
-use Rattle.patch_file.specs.Written.{WritesPart}
+use Rattle.view_outside.specs.Written.{WritesPart}
 use Rattle.wish_board.specs.Boards.{BoardSeen}
 use Rattle.cache_chain.specs.ChainStates.{ChainSeen}
 use Rattle.run_model.specs.Worlds.{World}

@@ -1,7 +1,7 @@
 -- How a run of lines ends: what they did and printed, or why it stops.
 use Rattle.std.specs.Prelude.{◌≡◌, ℕ, List, ◌∷◌, ◌++◌, Option, sum_by}
 use Rattle.std.specs.List.{AllByRecursion}
-use Rattle.patch_file.specs.Written.{WritesPart}
+use Rattle.view_outside.specs.Written.{WritesPart}
 use Rattle.script_model.specs.declared.orders.Order.{Order}
 use Rattle.view_outside.specs.Faults.{Rose, RoseBy}
 use Rattle.view_outside.specs.Streams.{appended}

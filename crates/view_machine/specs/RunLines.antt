@@ -5,7 +5,7 @@ use Rattle.std.specs.Option.{option_map_or}
 use Rattle.std.proofs.Math.Path.{fun_ext}
 use Rattle.std.proofs.lemmas.List.{length-append}
 use Rattle.std.proofs.lemmas.List.Sums.{sum_by-append, sum_by-cons}
-use Rattle.patch_file.specs.Written.{WritesPart-after, appended-after}
+use Rattle.view_outside.specs.Written.{WritesPart-after, appended-after}
 use Rattle.script_model.specs.declared.modes.Mode.{Mode}
 use Rattle.script_model.specs.declared.orders.Line.{Line}
 use Rattle.script_model.specs.declared.orders.Order.{Order}

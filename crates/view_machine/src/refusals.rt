@@ -22,10 +22,10 @@ impl From<NoMemory> for RunRefusal {
     }
 }
 
-impl From<patch_file::WriteFault> for RunRefusal {
+impl From<view_outside::WriteFault> for RunRefusal {
     ghost from_gives = { λ _ refusal. refusal ≡ WriteFault };
 
-    fn from(_error: patch_file::WriteFault) -> RunRefusal {
+    fn from(_error: view_outside::WriteFault) -> RunRefusal {
         RunRefusal::WriteFault
     }
 }

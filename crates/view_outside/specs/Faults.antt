@@ -20,7 +20,8 @@ pub record HasCause {T E : Type 0} (before now : ℕ) (there : Type 0) (result :
   pub failed : OnErr result (there → Rose before now)
 
 -- two rises are one by their sum
-pub RoseBy-sum : (m n before between now : ℕ) → RoseBy m before between → RoseBy n between now → RoseBy (m + n) before now
+pub RoseBy-sum : (m n before between now : ℕ) → RoseBy m before between → RoseBy n between now
+    → RoseBy (m + n) before now
 RoseBy-sum m n before between now first second = omega (arith, first, second)
 
 -- what rose before has risen later

@@ -1,5 +1,6 @@
 -- The files of a store, where it tells them, and what a look-up and a read answer of them.
-use Rattle.std.specs.Prelude.{◌≡◌, ℕ, ◌<◌, ◌≤◌, List, length, take, drop, Option, None, Some, IsSome, IfSome, MatchOption, option_map, position, bytes_eq, slice_get, slice_index, ⊤}
+use Rattle.std.specs.Prelude.{◌≡◌, ℕ, ◌<◌, ◌≤◌, List, length, take, drop, slice_get, slice_index, position, bytes_eq, ⊤}
+use Rattle.std.specs.Prelude.{Option, None, Some, IsSome, IfSome, MatchOption, option_map}
 use Rattle.std.proofs.Common.{subst}
 
 -- a file: the bytes of its name, and its bytes
@@ -64,10 +65,15 @@ ReadsFile None file offset buffer n = ⊤
 ReadsFile (Some files) file offset buffer n =
     MatchOption (bytes_at files file) (ReadsNothing buffer n) (λ bytes. ReadsFrom bytes offset buffer n)
 
-told_of : (bytes : List ℕ) (offset n : ℕ) (buffer : List ℕ) → (found : Option (List ℕ)) → found ≡ Some bytes → MatchOption found (ReadsNothing buffer n) (λ bytes. ReadsFrom bytes offset buffer n) → ReadsFrom bytes offset buffer n
-told_of bytes offset n buffer found is read = subst (λ o. MatchOption o (ReadsNothing buffer n) (λ bytes. ReadsFrom bytes offset buffer n)) is read
+told_of : (bytes : List ℕ) (offset n : ℕ) (buffer : List ℕ) → (found : Option (List ℕ)) → found ≡ Some bytes
+    → MatchOption found (ReadsNothing buffer n) (λ bytes. ReadsFrom bytes offset buffer n)
+    → ReadsFrom bytes offset buffer n
+told_of bytes offset n buffer found is read =
+    subst (λ o. MatchOption o (ReadsNothing buffer n) (λ bytes. ReadsFrom bytes offset buffer n)) is read
 
 -- a read of a file whose bytes are told
-pub ReadsFile-told : (files : Option (List Named)) (file offset n : ℕ) (bytes buffer : List ℕ) → file_bytes files file ≡ Some bytes → ReadsFile files file offset buffer n → ReadsFrom bytes offset buffer n
+pub ReadsFile-told : (files : Option (List Named)) (file offset n : ℕ) (bytes buffer : List ℕ)
+    → file_bytes files file ≡ Some bytes → ReadsFile files file offset buffer n → ReadsFrom bytes offset buffer n
 ReadsFile-told None file offset n bytes buffer is read = cc
-ReadsFile-told (Some files) file offset n bytes buffer is read = told_of bytes offset n buffer (bytes_at files file) is read
+ReadsFile-told (Some files) file offset n bytes buffer is read =
+    told_of bytes offset n buffer (bytes_at files file) is read

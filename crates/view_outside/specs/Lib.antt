@@ -3,6 +3,8 @@ pub mod Taken
 pub mod Files
 pub mod OnlyRead
 pub mod Streams
+pub mod Written
+pub mod Blocks
 pub mod Planned
 pub mod StoreState
 pub mod SourceState

@@ -9,7 +9,8 @@ OnlyIf failure fact answer = answer ≡ failure → fact
 
 -- the store's files are what they were, its count of faults didn't fall, and it rose where the answer is the store's
 -- failure
-pub record OnlyRead {T E : Type 0} (failure : E) (before after : Option (List Named)) (faults now : ℕ) (result : Result T E) : Type 0 where
+pub record OnlyRead {T E : Type 0} (failure : E) (before after : Option (List Named))
+    (faults now : ℕ) (result : Result T E) : Type 0 where
   pub kept : after ≡ before
   pub later : faults ≤ now
   pub cause : IfErr result (OnlyIf failure (Rose faults now))

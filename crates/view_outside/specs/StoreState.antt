@@ -31,7 +31,8 @@ fails_read store offset = fails_next store.fail_calls || fails_next_at offset st
 -- how many bytes a read hands over, if it doesn't fail: as many as are there and fit
 abbrev pub read_answer : StoreState → ℕ → ℕ → ℕ → Option ℕ
 read_answer store file offset room =
-    if fails_read store offset then None else option_map (λ bytes. min (length (drop offset bytes)) room) (bytes_at store.files file)
+    if fails_read store offset then None
+    else option_map (λ bytes. min (length (drop offset bytes)) room) (bytes_at store.files file)
 
 -- the store after a read at this offset that handed over n bytes
 abbrev pub after_read : StoreState → ℕ → ℕ → StoreState

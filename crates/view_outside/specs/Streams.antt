@@ -22,6 +22,7 @@ pub appended-nil : (told : Option (List ℕ)) → appended told [] ≡ told
 appended-nil None = refl
 appended-nil (Some written) = ap Some (append-nil written)
 
-pub appended-appended : (told : Option (List ℕ)) (first second : List ℕ) → appended (appended told first) second ≡ appended told (first ++ second)
+pub appended-appended : (told : Option (List ℕ)) (first second : List ℕ)
+    → appended (appended told first) second ≡ appended told (first ++ second)
 appended-appended None first second = refl
 appended-appended (Some written) first second = ap Some (append_assoc written first second)

@@ -14,11 +14,11 @@ mod sinks;
 mod sources;
 mod stores;
 
-pub use failed::Failed;
+pub use failed::{Failed, WriteFault};
 pub use gates::{Gate, GatePoint, HoldGate, OpenGate};
-pub use sinks::{MemorySink, Sink, StdSink};
+pub use sinks::{MemorySink, Sink, StdSink, write_all};
 pub use sources::{MemorySource, Source, StdSource};
-pub use stores::{FolderStore, MemoryStore, NamedFile, Store};
+pub use stores::{FolderStore, MemoryStore, NamedFile, ReadAhead, Store};
 
 #[cfg(test)]
 mod tests;

@@ -8,9 +8,11 @@ use crate::failed::Failed;
 
 mod memory;
 mod writer;
+mod writing;
 
 pub use memory::MemorySink;
 pub use writer::StdSink;
+pub use writing::write_all;
 
 /// Takes bytes in their order.
 pub trait Sink {

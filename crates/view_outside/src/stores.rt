@@ -1,15 +1,17 @@
 //! Files that are found by name and read at any offset.
 
-ghost use Rattle.std.specs.Prelude.{◌≡◌, ℕ, ◌≤◌, List, length, Option, IfOk, MatchResult};
+ghost use Rattle.std.specs.Prelude.{◌≡◌, ℕ, ◌<◌, ◌≤◌, List, length, Option, IfOk, MatchResult};
 ghost use Rattle.view_outside.specs.Faults.{HasCause};
 ghost use Rattle.view_outside.specs.Files.{Named, HasFile, HasName, Finds, ReadsFile, TellsBytes};
 ghost use Rattle.view_outside.specs.Taken.{taken_after};
 
 use crate::failed::Failed;
 
+mod ahead;
 mod folder;
 mod memory;
 
+pub use ahead::ReadAhead;
 pub use folder::FolderStore;
 pub use memory::{MemoryStore, NamedFile};
 
@@ -34,11 +36,12 @@ pub trait Store {
         ensures taken { taken self.new ≡ taken self.old };
 
     /// Reads bytes of a file from this offset into the buffer, and answers how many.
-    /// None into a buffer with room means that the file ends there.
+    /// None into a buffer with room means that the file ends there. A read into one without room may ask nobody, and tells
+    /// nothing of the file.
     fn read_at(&mut self, file: u32, offset: u64, buffer: &mut [u8]) -> Result<usize, Failed>
         ensures bound { IfOk result (λ n. n ≤ length buffer.new) }
         ensures bytes { IfOk result (λ n. ReadsFile (files self.old) file offset buffer.new n) }
-        ensures told { IfOk result (λ _. TellsBytes (files self.old) file) }
+        ensures told { IfOk result (λ _. 0 < length buffer.new → TellsBytes (files self.old) file) }
         ensures cause { HasCause (faults self.old) (faults self.new) (HasFile (files self.old) file)
             result }
         ensures kept { files self.new ≡ files self.old }

@@ -7,6 +7,8 @@ use std::fs;
 use std::io::{self, ErrorKind, Read, Write};
 use std::test::Fail;
 
+mod ahead;
+
 fn find<S: Store>(store: &mut S, name: &str) -> Result<u32, Failed> {
     store.find(name)
 }

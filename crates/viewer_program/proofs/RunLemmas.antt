@@ -7,7 +7,7 @@ use Rattle.view_outside.specs.Streams.{appended}
 use Rattle.view_outside.specs.Taken.{taken_after, taken_after-taken_after}
 use Rattle.script_model.specs.declared.orders.Line.{Line}
 use Rattle.script_model.specs.declared.orders.Order.{Order}
-use Rattle.patch_file.specs.Written.{WritesPart}
+use Rattle.view_outside.specs.Written.{WritesPart}
 use Rattle.tier_model.specs.Tiers.{TierState}
 use Rattle.tier_model.specs.Chains.{opened}
 use Rattle.run_model.specs.Worlds.{World}

@@ -4,7 +4,7 @@ use Rattle.file_model.specs.BodyFaults.{IsBodyFault}
 use Rattle.text_model.specs.declared.statuses.Status.{Status}
 use Rattle.text_model.specs.declared.statuses.Status.TheVariants as statuses
 use Rattle.view_outside.specs.Streams.{appended}
-use Rattle.patch_file.specs.Written.{WritesPart}
+use Rattle.view_outside.specs.Written.{WritesPart}
 use Rattle.viewer_program.specs.declared.commands.Command.{Command}
 use Rattle.viewer_program.specs.declared.commands.Command.TheVariants.{Base, Check, Full, Convert, Cull, Sides, Pick}
 use Rattle.viewer_program.specs.Answers.{IsRefusalOf, IsWideIn}

@@ -16,7 +16,7 @@ use Rattle.text_model.specs.declared.faults.ScriptFault.{ScriptFault}
 use Rattle.text_model.specs.declared.statuses.Status.{Status}
 use Rattle.text_model.specs.declared.statuses.Status.TheVariants as statuses
 use Rattle.view_outside.specs.Streams.{appended}
-use Rattle.patch_file.specs.Written.{WritesPart}
+use Rattle.view_outside.specs.Written.{WritesPart}
 use Rattle.run_model.specs.Worlds.{World}
 use Rattle.viewer_program.specs.Answers.{IsRefusalOf}
 use Rattle.viewer_program.specs.Playing.{PlaySeen}

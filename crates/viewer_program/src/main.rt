@@ -18,14 +18,13 @@ mod strips;
 mod tests;
 mod words;
 
-use read_ahead::ReadAhead;
 use run::run_still;
 use statuses::{plain_line, status_code, status_text};
 use std::alloc::AllocError;
 use std::io::Write;
 use std::process::ExitCode;
 use text_model::Status;
-use view_outside::{FolderStore, StdSink, StdSource};
+use view_outside::{FolderStore, ReadAhead, StdSink, StdSource};
 use words::program_words;
 
 // Runs the command over the folder's files and the standard streams.

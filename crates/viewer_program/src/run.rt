@@ -5,7 +5,7 @@ ghost use Rattle.text_model.specs.declared.statuses.Status.TheVariants.{Usage, R
 ghost use Rattle.view_outside.specs.Faults.{Rose};
 ghost use Rattle.view_outside.specs.Files.{HasName, LacksName};
 ghost use Rattle.view_outside.specs.OnlyRead.{OnlyIf};
-ghost use Rattle.patch_file.specs.Written.{Wrote};
+ghost use Rattle.view_outside.specs.Written.{Wrote};
 ghost use Rattle.view_script.specs.Reads.{ReadsAtMost, ReadsThrough};
 ghost use Rattle.viewer_program.specs.Commands.{command_in, name_in, IsKnown};
 ghost use Rattle.viewer_program.specs.Answers.{IsTextOf, IsOfAccepted, IsTextOfKind};
@@ -21,22 +21,21 @@ use crate::outputs::{Output, command_output};
 use crate::playing::run_play;
 use crate::plays::play_of;
 use crate::strips::{run_strip_command, strip_command_of};
-use frame_writer::write_text;
 use patch_file::write_file;
 use std::alloc::Global;
 use text_model::Status;
-use view_outside::{Sink, Source, Store};
+use view_outside::{Sink, Source, Store, write_all};
 use view_script::MOST_SCRIPT;
 
 // Writes all that a command writes, or a proper beginning where the sink fails.
-fn write_output<O: Sink>(output: &Output, sink: &mut O) -> Result<(), file_model::WriteFault>
+fn write_output<O: Sink>(output: &Output, sink: &mut O) -> Result<(), view_outside::WriteFault>
     requires { IsWritable output.now }
     ensures text { Wrote result (O.written sink.old) (O.written sink.new)
         (output_text output.now) }
     ensures cause { OnErr result (Rose (O.faults sink.old) (O.faults sink.new)) }
 {
     match output {
-        Output::Text(text) => write_text(text, sink),
+        Output::Text(text) => write_all(text, sink),
         Output::File(parts) => write_file(parts, sink),
     }
 }

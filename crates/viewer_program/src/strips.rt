@@ -11,13 +11,12 @@ ghost use Rattle.bench_laws.specs.BenchRuns.{IsBenchText};
 ghost use Rattle.viewer_program.specs.Strips.{IsColumns, columns_from, strip_command_in, strip_command_with, HasColumns, IsStripText, IsStripOutput, IsForMemory};
 
 use bench_run::bench;
-use frame_writer::write_text;
 use mesh_maker::{MOST_COLUMNS, strip};
 use number_words::read_number;
 use patch_file::write_file;
 use std::alloc::Global;
 use text_model::Status;
-use view_outside::Sink;
+use view_outside::{Sink, write_all};
 
 /// A command over the strip of so many columns.
 #[derive(Clone, Copy, Debug, PartialEq, Eq)]
@@ -89,7 +88,7 @@ fn write_summary<O: Sink>(alloc: Global, columns: u32, sink: &mut O) -> Status
     let Ok(text) = bench(alloc, columns) else {
         return Status::Memory;
     };
-    match write_text(&text, sink) {
+    match write_all(&text, sink) {
         Ok(()) => Status::Ok,
         Err(_) => Status::WriteFault,
     }

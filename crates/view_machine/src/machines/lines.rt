@@ -12,11 +12,10 @@ ghost use Rattle.view_machine.specs.LineOutputs.{LineGives};
 
 use crate::machines::Machine;
 use crate::refusals::RunRefusal;
-use frame_writer::write_text;
 use grid_vertex::NoMemory;
 use script_model::Order;
 use std::alloc::Global;
-use view_outside::{Sink, Store};
+use view_outside::{Sink, Store, write_all};
 
 impl<'a, S: Store> Machine<'a, S> {
     // Does what the order says, and gives the text of its line.
@@ -81,7 +80,7 @@ impl<'a, S: Store> Machine<'a, S> {
         ensures tiers { length self.new.chain.tiers ≡ length self.old.chain.tiers }
     {
         let text = self.line_output(alloc, order)?;
-        write_text(&text, sink)?;
+        write_all(&text, sink)?;
         Ok(())
     }
 }

@@ -1,6 +1,6 @@
 use Rattle.std.proofs.Common.{ap, ◌∙◌, arith}
 use Rattle.file_model.specs.Lists.{SeenBody}
-use Rattle.patch_file.specs.Written.{Sent-none}
+use Rattle.patch_file.specs.Batches.{Sent-none}
 use Rattle.patch_file.proofs.Appending.{Sends-failed, item_sent, item_part, all_sent}
 use Rattle.patch_file.proofs.writing.add_bodies.Goals as goal
 

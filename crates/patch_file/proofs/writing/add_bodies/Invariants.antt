@@ -1,7 +1,7 @@
 use Rattle.std.proofs.Common.{◌≤◌, take}
 use Rattle.std.specs.List.{flat_map}
 use Rattle.file_model.specs.Lists.{SeenBody}
-use Rattle.patch_file.specs.Written.{Sent}
+use Rattle.patch_file.specs.Batches.{Sent}
 use Rattle.patch_file.proofs.writing.add_bodies.Given as goal
 
 abbrev pub invariant-loop-body : goal.invariant-loop-body

@@ -1,7 +1,7 @@
 use Rattle.std.proofs.Common.{◌≤◌, take}
 use Rattle.std.specs.List.{flat_map}
 use Rattle.file_model.specs.Spelling.{field_text}
-use Rattle.patch_file.specs.Written.{Sent}
+use Rattle.patch_file.specs.Batches.{Sent}
 use Rattle.patch_file.proofs.writing.add_fields.Given as goal
 
 abbrev pub invariant-loop-field : goal.invariant-loop-field

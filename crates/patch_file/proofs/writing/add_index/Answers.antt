@@ -2,7 +2,7 @@ use Rattle.std.proofs.Common.{◌≡◌, ◌++◌, subst, ap}
 use Rattle.std.specs.List.{flat_map}
 use Rattle.file_model.specs.Lists.{FileLists}
 use Rattle.file_model.specs.Spelling.{node_text, field_text, index_text}
-use Rattle.patch_file.specs.Written.{Sends, Sends-part}
+use Rattle.patch_file.specs.Batches.{Sends, Sends-part}
 use Rattle.patch_file.proofs.Appending.{Sends-failed, Sends-after, index_text-is}
 use Rattle.patch_file.proofs.writing.add_index.Goals as goal
 

@@ -1,6 +1,6 @@
 use Rattle.std.specs.List.{flat_map}
 use Rattle.file_model.specs.Spelling.{node_text, field_text}
-use Rattle.patch_file.specs.Written.{Sends-part}
+use Rattle.patch_file.specs.Batches.{Sends-part}
 use Rattle.patch_file.proofs.Appending.{Sends-failed, Sends-after}
 use Rattle.patch_file.proofs.writing.add_units.Goals as goal
 

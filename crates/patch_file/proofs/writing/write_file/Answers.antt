@@ -2,7 +2,7 @@ use Rattle.std.proofs.Common.{◌≡◌, [], ap, ◌∙◌}
 use Rattle.std.specs.List.{flat_map}
 use Rattle.file_model.specs.Lists.{FileLists, SeenBody}
 use Rattle.file_model.specs.Spelling.{body_text, index_text, file_text}
-use Rattle.patch_file.specs.Written.{Sent, Sent-then, Sent-part, Sent-wrote, Sends-part}
+use Rattle.patch_file.specs.Batches.{Sent, Sent-then, Sent-part, Sent-wrote, Sends-part}
 use Rattle.patch_file.proofs.Appending.{Wrote-failed, Sent-same, WritesPart-same, bodies_text}
 use Rattle.patch_file.proofs.writing.write_file.Goals as goal
 

@@ -1,4 +1,4 @@
-use Rattle.patch_file.specs.Written.{Sends-at_once}
+use Rattle.patch_file.specs.Batches.{Sends-at_once}
 use Rattle.patch_file.proofs.batches.Batch.add.Goals as goal
 
 pub returns-then-bytes-gt-ROOM-clause-text : goal.returns-then-bytes-gt-ROOM-clause-text

@@ -2,10 +2,10 @@
 
 ghost use Rattle.std.specs.Prelude.{◌≡◌, ◌<◌, ◌≤◌, length, OnErr};
 ghost use Rattle.view_outside.specs.Faults.{Rose};
-ghost use Rattle.patch_file.specs.Written.{Wrote};
+ghost use Rattle.view_outside.specs.Written.{Wrote};
 
-use file_model::WriteFault;
-use view_outside::Sink;
+use crate::failed::WriteFault;
+use crate::sinks::Sink;
 
 /// Writes all of these bytes, or a proper beginning of them where the sink fails.
 pub fn write_all<O: Sink>(bytes: &[u8], sink: &mut O) -> Result<(), WriteFault>

@@ -1,7 +1,7 @@
 use Rattle.std.proofs.Common.{arith}
 use Rattle.std.proofs.lemmas.List.{take_rest, length-drop}
-use Rattle.patch_file.proofs.Appending.{bytes_more}
-use Rattle.patch_file.proofs.sending.write_all.Goals as goal
+use Rattle.view_outside.proofs.Appending.{bytes_more}
+use Rattle.view_outside.proofs.sinks.writing.write_all.Goals as goal
 
 pub loop-written-preserved : goal.loop-written-preserved
 loop-written-preserved g c = record {

@@ -1,6 +1,6 @@
 use Rattle.std.proofs.Common.{◌≡◌, ◌-◌, ◌≤◌, length, take}
 use Rattle.view_outside.specs.Streams.{appended}
-use Rattle.patch_file.proofs.sending.write_all.Given as goal
+use Rattle.view_outside.proofs.sinks.writing.write_all.Given as goal
 
 abbrev pub invariant-loop-written : goal.invariant-loop-written
 invariant-loop-written g l = record {
