@@ -1,9 +1,11 @@
 -- The keys of a body's triangles have the triangles' net, and so has what is left of them.
-use Rattle.std.proofs.Common.{◌≡◌, ◌∙◌, ℕ, ◌+◌, ◌*◌, ◌<◌, ◌≤◌, ◌&&◌, true, not, List, [], ◌∷◌, ◌++◌, length, map, take, get_or, ltb, refl, sym, ap, subst, arith, length-append}
+use Rattle.std.proofs.Common.{◌≡◌, ◌≢◌, ◌∙◌, ℕ, ◌+◌, ◌*◌, ◌<◌, ◌≤◌, ◌&&◌, ◌||◌, true, false, not, List, [], ◌∷◌, ◌++◌, length, map, take, get_or, ℤ, ltb, refl, sym, ap, subst, arith, length-append}
 use Rattle.std.specs.Prelude.{All, Option, Some, slice_get, unwrap_or}
+use Rattle.std.specs.Ordering.{int_eq}
+use Rattle.std.proofs.lemmas.Cmp.{int_eq_equiv}
 use Rattle.std.specs.List.{list_all}
-use Rattle.std.specs.List.Sorted.{IsPermutation}
-use Rattle.std.proofs.lemmas.Bool.{and_parts, ltb-true}
+use Rattle.std.specs.List.Sorted.{IsPermutation, IsNonDecreasing}
+use Rattle.std.proofs.lemmas.Bool.{false≢true, and_parts, or_parts, and_from, not-true, ltb-true}
 use Rattle.std.proofs.lemmas.Int.{ints}
 use Rattle.std.proofs.lemmas.List.{length-map, append-nil}
 use Rattle.std.proofs.lemmas.List.Concat.{flat_map-cons}
@@ -15,7 +17,7 @@ use Rattle.grid_vertex.specs.declared.points.Point.{Point}
 use Rattle.grid_vertex.specs.Triangles.{is_flat_triangle}
 use Rattle.file_model.specs.Lists.{Corners, BodyLists, origin_point, point_at_place, triangle_of, triangles_from}
 use Rattle.file_model.specs.Rules.{is_triangle, are_corners, is_body, is_narrow}
-use Rattle.grid_vertex.specs.Points.{is_in_grid}
+use Rattle.grid_vertex.specs.Points.{is_in_grid, is_same_point}
 use Rattle.mesh_model.specs.Nets.{one_if, is_edge, edge_times, times, net}
 use Rattle.edge_chain.specs.declared.edges.BorderEdge.{BorderEdge}
 use Rattle.edge_chain.specs.Borders.{edges_times, edges_net}
@@ -24,6 +26,7 @@ use Rattle.body_edges.specs.Borders.{IsBorderOf}
 use Rattle.body_edges.proofs.KeyLaws.{from_of_key, to_of_key}
 use Rattle.body_edges.proofs.NetLaws.{key_times, keys_times-append, keys_times-cons, keys_times-nil, same_net_permuted, same_net_trans}
 use Rattle.body_edges.proofs.DropLaws.{IsLeft}
+use Rattle.body_edges.proofs.CancelLaws.{none_cancels}
 use Rattle.body_edges.proofs.ListLaws.{append-take_one, map-take_one}
 
 -- the corners are places of so many points
@@ -31,19 +34,49 @@ record HasCorners (points : ℕ) (t : Corners) : Type 0 where
   a : t.a < points
   b : t.b < points
   c : t.c < points
+  ab : t.a ≢ t.b
+  bc : t.b ≢ t.c
+  ca : t.c ≢ t.a
+
+int_itself : (x : ℤ) → int_eq x x ≡ true
+int_itself x = (int_eq_equiv).refl x
+
+same_itself : (p : Point) → is_same_point p p ≡ true
+same_itself p = and_from (int_eq p.x p.x && int_eq p.y p.y) (int_eq p.z p.z) (and_from (int_eq p.x p.x) (int_eq p.y p.y) (int_itself p.x) (int_itself p.y)) (int_itself p.z)
+
+-- places of different points are different
+places_apart : (points : List Point) (i j : ℕ) → is_same_point (point_at_place points i) (point_at_place points j) ≡ false → i ≢ j
+places_apart points i j h e =
+    false≢true (sym h ∙ ap (λ (k : ℕ). is_same_point (point_at_place points k) (point_at_place points j)) e ∙ same_itself (point_at_place points j))
 
 corners_there : (points : List Point) (t : Corners) → is_triangle points t ≡ true → HasCorners (length points) t
+unfolding is_flat_triangle triangle_of
 corners_there points t h =
     let there = and_parts (are_corners (length points) t) (not (is_flat_triangle (triangle_of points t))) h in
     let two = and_parts (ltb t.a (length points) && ltb t.b (length points)) (ltb t.c (length points)) there.0 in
     let one = and_parts (ltb t.a (length points)) (ltb t.b (length points)) two.0 in
-    record { a = ltb-true t.a (length points) one.0; b = ltb-true t.b (length points) one.1; c = ltb-true t.c (length points) two.1 }
+    let tri = triangle_of points t in
+    let sides = or_parts (is_same_point tri.a tri.b || is_same_point tri.b tri.c) (is_same_point tri.c tri.a) (not-true (is_flat_triangle tri) there.1) in
+    let first = or_parts (is_same_point tri.a tri.b) (is_same_point tri.b tri.c) sides.0 in
+    record {
+      a = ltb-true t.a (length points) one.0;
+      b = ltb-true t.b (length points) one.1;
+      c = ltb-true t.c (length points) two.1;
+      ab = places_apart points t.a t.b first.0;
+      bc = places_apart points t.b t.c first.1;
+      ca = places_apart points t.c t.a sides.1;
+    }
 
-is_key : (points from to : ℕ) → points ≤ 65535 → from < points → to < points → IsKey points (key_of from to)
-is_key points from to few h k = record {
-  from = subst (λ (n : ℕ). n < points) (sym (from_of_key from to (omega arith) (omega arith))) h;
-  to = subst (λ (n : ℕ). n < points) (sym (to_of_key from to (omega arith) (omega arith))) k;
-}
+is_key : (points from to : ℕ) → points ≤ 65535 → from < points → to < points → from ≢ to → IsKey points (key_of from to)
+is_key points from to few h k apart =
+    let begin : from_of (key_of from to) ≡ from = from_of_key from to (omega arith) (omega arith) in
+    let end : to_of (key_of from to) ≡ to = to_of_key from to (omega arith) (omega arith) in
+    record {
+      from = subst (λ (n : ℕ). n < points) (sym begin) h;
+      to = subst (λ (n : ℕ). n < points) (sym end) k;
+      apart = λ e. apart (sym begin ∙ e ∙ end);
+      made = sym (ap (λ (n : ℕ). key_of n (to_of (key_of from to))) begin ∙ ap (λ (n : ℕ). key_of from n) end);
+    }
 
 -- a key's edge stands where its two places' points do
 key_times_is : (points : List Point) (a b : Point) (from to : ℕ) → from < 65536 → to < 65536 → key_times points a b (key_of from to) ≡ one_if (is_edge a b (point_at_place points from) (point_at_place points to))
@@ -88,9 +121,9 @@ all_keys points (t ∷ ts) few h =
     let k = corners_there points t parts.0 in
     let P : ℕ → Type 0 = IsKey (length points) in
     subst (λ (keys : List ℕ). All P keys) (sym (flat_map-cons keys_of_corners t ts))
-    (All-cons P (key_of t.a t.b) (key_of t.b t.c ∷ key_of t.c t.a ∷ keys_in ts) (is_key (length points) t.a t.b few k.a k.b)
-    (All-cons P (key_of t.b t.c) (key_of t.c t.a ∷ keys_in ts) (is_key (length points) t.b t.c few k.b k.c)
-    (All-cons P (key_of t.c t.a) (keys_in ts) (is_key (length points) t.c t.a few k.c k.a) (all_keys points ts few parts.1))))
+    (All-cons P (key_of t.a t.b) (key_of t.b t.c ∷ key_of t.c t.a ∷ keys_in ts) (is_key (length points) t.a t.b few k.a k.b k.ab)
+    (All-cons P (key_of t.b t.c) (key_of t.c t.a ∷ keys_in ts) (is_key (length points) t.b t.c few k.b k.c k.bc)
+    (All-cons P (key_of t.c t.a) (keys_in ts) (is_key (length points) t.c t.a few k.c k.a k.ca) (all_keys points ts few parts.1))))
 
 length-keys_in : (corners : List Corners) → length (keys_in corners) ≡ 3 * length corners
 unfolding keys_of_corners
@@ -127,6 +160,7 @@ pub record AreLeftOf (lists : BodyLists) (left : List ℕ) : Type 0 where
   pub triangles : list_all (is_triangle lists.points) lists.corners ≡ true
   pub sorted : List ℕ
   pub moved : IsPermutation (keys_in lists.corners) sorted
+  pub ascending : IsNonDecreasing sorted
   pub left_is : IsLeft left sorted
 
 pub are_keys : (lists : BodyLists) (left : List ℕ) → AreLeftOf lists left → All (IsKey (length lists.points)) left
@@ -148,6 +182,7 @@ border_is lists left h =
             all_times lists.points lists.corners a b h.few h.triangles,
             all_times lists.points lists.corners b a h.few h.triangles,
           );
+      one_way = none_cancels lists.points left h.few (are_keys lists left h) (h.left_is.one_way h.ascending);
       few = omega (arith, length-map left (edge_between lists.points), h.left_is.few, length_permutation (keys_in lists.corners) h.sorted h.moved, length-keys_in lists.corners);
     }
 

@@ -3,13 +3,13 @@ use Rattle.std.proofs.Common.{◌≡◌, ◌≢◌, ◌∙◌, ℕ, ◌+◌, ◌
 use Rattle.std.proofs.lemmas.Bool.Decides.{nat_tests}
 use Rattle.body_edges.specs.Keys.{key_of, end_of, from_of, to_of, are_opposite}
 
-abbrev key_if : Bool → ℕ → ℕ → ℕ
+abbrev pub key_if : Bool → ℕ → ℕ → ℕ
 key_if forward from to = cond forward ((from * 65536 + to) * 2) ((to * 65536 + from) * 2 + 1)
 
-even_half : (half : ℕ) → (half * 2) / 2 ≡ half
+pub even_half : (half : ℕ) → (half * 2) / 2 ≡ half
 even_half half = omega arith
 
-odd_half : (half : ℕ) → (half * 2 + 1) / 2 ≡ half
+pub odd_half : (half : ℕ) → (half * 2 + 1) / 2 ≡ half
 odd_half half = omega arith
 
 even_rest : (half : ℕ) → (half * 2) % 2 ≡ 0

@@ -1,5 +1,5 @@
 -- Edges between a body's points as numbers.
-use Rattle.std.specs.Prelude.{◌≡◌, ℕ, ◌+◌, ◌*◌, ◌/◌, ◌%◌, ◌<◌, ◌==◌, Bool, not, ◌&&◌, List, [], ◌∷◌, nat_lt, if◌then◌else◌}
+use Rattle.std.specs.Prelude.{◌≡◌, ◌≢◌, ℕ, ◌+◌, ◌*◌, ◌/◌, ◌%◌, ◌<◌, ◌≤◌, ◌==◌, Bool, not, ◌&&◌, List, [], ◌∷◌, length, slice_index, nat_lt, if◌then◌else◌}
 use Rattle.std.specs.List.{flat_map, sum_by}
 use Rattle.grid_vertex.specs.declared.points.Point.{Point}
 use Rattle.file_model.specs.Lists.{Corners, point_at_place}
@@ -33,10 +33,12 @@ keys_of_corners t = key_of t.a t.b ∷ key_of t.b t.c ∷ key_of t.c t.a ∷ []
 abbrev pub keys_in : List Corners → List ℕ
 keys_in corners = flat_map keys_of_corners corners
 
--- the edge goes from a place of so many points to one
+-- the key is of an edge from a place of so many points to another
 pub record IsKey (points key : ℕ) : Type 0 where
   pub from : from_of key < points
   pub to : to_of key < points
+  pub apart : from_of key ≢ to_of key
+  pub made : key ≡ key_of (from_of key) (to_of key)
 
 -- the edge of a key between the points of a list
 unfoldable pub edge_between : List Point → ℕ → BorderEdge
@@ -49,3 +51,7 @@ keys_times points keys a b = sum_by (λ key. one_if (is_edge a b (edge_between p
 -- whatever the points are, what stands more often among some keys than among others does so the other way round
 pub record HaveSameNet (some others : List ℕ) : Type 0 where
   pub same : (points : List Point) (a b : Point) → keys_times points some a b + keys_times points others b a ≡ keys_times points others a b + keys_times points some b a
+
+-- keys with one half are one key: an edge's opposite isn't among them
+abbrev pub NoOpposites : List ℕ → Type 0
+NoOpposites keys = (i j : ℕ) → i ≤ j → j < length keys → slice_index keys i / 2 ≡ slice_index keys j / 2 → slice_index keys i ≡ slice_index keys j

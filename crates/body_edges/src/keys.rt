@@ -1,8 +1,9 @@
 //! A body's edges as numbers, so that a sort brings those together that may cancel.
 
 ghost use Rattle.std.specs.Prelude.{◌≡◌, ◌+◌, ◌<◌, ◌≤◌, ◌^◌, ℕ, [], ◌++◌, length, All, OnOk};
+ghost use Rattle.std.specs.List.Sorted.{IsNonDecreasing};
 ghost use Rattle.file_model.specs.Lists.{corners_of};
-ghost use Rattle.body_edges.specs.Keys.{key_of, end_of, from_of, to_of, are_opposite, keys_of_corners, keys_in, IsKey, HaveSameNet};
+ghost use Rattle.body_edges.specs.Keys.{key_of, end_of, from_of, to_of, are_opposite, keys_of_corners, keys_in, IsKey, HaveSameNet, NoOpposites};
 
 use grid_vertex::NoMemory;
 use patch_body::Body;
@@ -85,6 +86,7 @@ pub fn drop_opposites(keys: &mut Vec<u64>)
     ensures few { length keys.new.items ≤ length keys.old.items }
     ensures all { (points : ℕ) → All (IsKey points) keys.old.items
         → All (IsKey points) keys.new.items }
+    ensures one_way { IsNonDecreasing keys.old.items → NoOpposites keys.new.items }
 {
     let mut kept = 0;
     for place in 0..keys.len() {
