@@ -1,3 +1,4 @@
 pub mod Taken
 pub mod Fitting
 pub mod Origins
+pub mod Sizes

@@ -2,8 +2,10 @@
 
 ghost use Rattle.std.specs.Prelude.{◌≡◌, map, IfOk, IfErr, IfSome, MatchResult};
 ghost use Rattle.std.specs.Arc.{arc_value};
+ghost use Rattle.file_model.specs.Lists.{bodies_size};
 ghost use Rattle.view_outside.specs.Files.{HasFile, file_bytes};
-ghost use Rattle.view_outside.specs.OnlyRead.{OnlyRead};
+ghost use Rattle.view_outside.specs.OnlyRead.{OnlyIf, OnlyRead};
+ghost use Rattle.view_outside.specs.Taken.{taken_after, RisesBelow};
 ghost use Rattle.body_loads.specs.declared.refusals.LoadRefusal.TheVariants.{ReadFault};
 ghost use Rattle.body_loads.specs.Loads.{AreBodiesAt, RefusesLoad, NamesOneOf, IsBodyChange};
 ghost use Rattle.file_convert.specs.Held.{HoldsBodies};
@@ -39,6 +41,12 @@ pub fn load_all<S: Store>(
     ensures bodies { IfOk result (λ bodies. HoldsBodies index.now (map arc_value bodies.items)) }
     ensures names { IfErr result (NamesOneOf (all_patches index.now)) }
     ensures changed { IfErr result IsBodyChange }
+    ensures taken { IfOk result
+        (λ _. S.taken store.new
+        ≡ taken_after (S.taken store.old) (bodies_size index.now.version index.now.fields)) }
+    ensures cut { IfErr result (OnlyIf ReadFault
+        (RisesBelow (S.taken store.old) (S.taken store.new)
+        (bodies_size index.now.version index.now.fields))) }
     ensures store { OnlyRead ReadFault (S.files store.old) (S.files store.new)
         (S.faults store.old) (S.faults store.new) result }
 {

@@ -10,6 +10,7 @@ use Rattle.body_loads.specs.Loads.{patches_of}
 use Rattle.file_convert.specs.Held.{HoldsBodies}
 use Rattle.file_convert.specs.Loaded.{loaded_are_held}
 use Rattle.file_convert.specs.Whole.{all_patches}
+use Rattle.file_convert.proofs.Sizes.{sizes_of_all}
 use Rattle.file_convert.proofs.loads.load_all.Goals as goal
 
 all_below : (n k d : ℕ) → k < length (range_with_len 0 n) → get_or (range_with_len 0 n) k d < n
@@ -27,3 +28,9 @@ load_bodies-requires-clause-patches g c = rw (c.deref.ensures.value, c.in_ok-pat
 pub returns-clause-bodies : goal.returns-clause-bodies
 returns-clause-bodies g c =
     holds (λ bodies. map arc_value bodies.items) c.load_bodies.result c.args.index.now (rw (c.deref.ensures.value, c.in_ok-patches.ensures) at c.load_bodies.ensures.patches) c.load_bodies.ensures.bodies
+
+pub returns-clause-taken : goal.returns-clause-taken
+returns-clause-taken g c = rw (c.deref.ensures.value, c.in_ok-patches.ensures, sizes_of_all c.args.index.now) at c.load_bodies.ensures.taken
+
+pub returns-clause-cut : goal.returns-clause-cut
+returns-clause-cut g c = rw (c.deref.ensures.value, c.in_ok-patches.ensures, sizes_of_all c.args.index.now) at c.load_bodies.ensures.cut
