@@ -13,10 +13,10 @@ use Rattle.file_model.specs.Rules.{is_version, fits_field, is_body, are_bodies, 
 use Rattle.file_laws.specs.Bodies.{IsBody-from, is_body-from}
 use Rattle.file_laws.specs.Files.{are_bodies-from}
 use Rattle.patch_body.specs.Seen.{lists_with}
-use Rattle.convert_laws.specs.Converted.{with_version, fits_version, AllFit, IsLeastWide}
+use Rattle.file_convert.specs.Converted.{with_version, fits_version, AllFit, IsLeastWide}
 use Rattle.file_convert.specs.Held.{lists_of, held_file, HoldsBodies}
 use Rattle.file_convert.proofs.Taken.{take_at}
-use Rattle.convert_laws.specs.ConvertLaws.{all_fit_1, fits_or_wide}
+use Rattle.file_convert.specs.ConvertLaws.{all_fit_1, fits_or_wide}
 
 -- the first n bodies fit version 2
 pub record FirstFit (bodies : List BodyLists) (n : ℕ) : Type 0 where

@@ -4,7 +4,7 @@ use Rattle.file_model.specs.declared.fields.Node.{Node}
 use Rattle.file_model.specs.declared.fields.PatchField.{PatchField}
 use Rattle.file_model.specs.Lists.{BodyLists, SeenBody, IndexLists, FileLists}
 use Rattle.patch_file.specs.BodyRead.{IsBodyOf}
-use Rattle.convert_laws.specs.Converted.{IsLeastWide}
+use Rattle.file_convert.specs.Converted.{IsLeastWide}
 use Rattle.file_convert.specs.declared.refusals.ConvertRefusal.{ConvertRefusal}
 use Rattle.file_convert.specs.declared.refusals.ConvertRefusal.TheVariants.{Wide, Memory}
 

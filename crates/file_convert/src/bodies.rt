@@ -4,7 +4,7 @@ ghost use Rattle.std.specs.Prelude.{◌≡◌, length, map, IfOk, IsTrue};
 ghost use Rattle.file_model.specs.Lists.{corners_of};
 ghost use Rattle.file_model.specs.Rules.{is_version, is_body};
 ghost use Rattle.patch_body.specs.Seen.{IsCount, lists_with};
-ghost use Rattle.convert_laws.specs.Converted.{fits_version};
+ghost use Rattle.file_convert.specs.Converted.{fits_version};
 
 use grid_vertex::{NoMemory, Point};
 use patch_file::Body;

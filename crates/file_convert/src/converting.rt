@@ -5,7 +5,7 @@ ghost use Rattle.std.specs.Arc.{arc_value};
 ghost use Rattle.std.specs.List.{list_all};
 ghost use Rattle.file_model.specs.Spelling.{file_text};
 ghost use Rattle.file_model.specs.Rules.{is_version, is_body, IsPatchFile};
-ghost use Rattle.convert_laws.specs.Converted.{with_version, AllFit};
+ghost use Rattle.file_convert.specs.Converted.{with_version, AllFit};
 ghost use Rattle.file_convert.specs.Held.{lists_of, held_file, HoldsBodies, with_all_nodes, with_all_patches, RefusesWide};
 
 use crate::bodies::converted;

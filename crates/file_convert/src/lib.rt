@@ -1,6 +1,6 @@
 //! A patch file in another version: its nodes, fields, points and corners, spelled anew.
 //!
-//! What stays of the file is told by the laws of `convert_laws`.
+//! What stays of the file is told by the laws in `laws`.
 #![tactic(auto)]
 
 ghost use Rattle.std.specs.Prelude.{◌≡◌, ℕ, List, length, map, All, Ok};
@@ -14,6 +14,7 @@ ghost use Rattle.file_convert.specs.Whole.{all_patches};
 
 mod bodies;
 mod converting;
+pub mod laws;
 mod loads;
 mod refusals;
 mod spans;

@@ -8,7 +8,7 @@ ghost use Rattle.file_model.specs.declared.limits.TheConstants.{MOST_PATCHES};
 ghost use Rattle.file_model.specs.Spelling.{origin_of};
 ghost use Rattle.file_model.specs.Rules.{is_version, is_near_origin, is_narrow};
 ghost use Rattle.patch_body.specs.Origins.{lower_of};
-ghost use Rattle.convert_laws.specs.Converted.{fits_version, AllFit, IsLeastWide};
+ghost use Rattle.file_convert.specs.Converted.{fits_version, AllFit, IsLeastWide};
 ghost use Rattle.file_convert.specs.Held.{lists_of, RefusesWide};
 
 use crate::bodies::points_of;

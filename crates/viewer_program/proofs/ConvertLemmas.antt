@@ -10,7 +10,7 @@ use Rattle.body_loads.specs.declared.refusals.LoadRefusal.{LoadRefusal}
 use Rattle.body_loads.specs.declared.refusals.LoadRefusal.TheVariants.{Changed, ReadFault, Memory}
 use Rattle.body_loads.specs.Loads.{body_at, AreBodiesAt, RefusesLoad}
 use Rattle.body_loads.specs.LoadLaws.{loads_no_fault}
-use Rattle.convert_laws.specs.Converted.{with_version}
+use Rattle.file_convert.specs.Converted.{with_version}
 use Rattle.file_convert.specs.declared.refusals.ConvertRefusal.{ConvertRefusal}
 use Rattle.file_convert.specs.declared.refusals.ConvertRefusal.TheVariants as converts
 use Rattle.file_convert.specs.Held.{lists_of, held_file, RefusesWide}

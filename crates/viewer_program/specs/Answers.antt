@@ -3,7 +3,7 @@ use Rattle.std.specs.Prelude.{◌≡◌, ℕ, List, Ok, Err}
 use Rattle.file_model.specs.Lists.{FileLists}
 use Rattle.file_model.specs.Reading.{file_in}
 use Rattle.file_model.specs.Rules.{IsPatchFile}
-use Rattle.convert_laws.specs.Converted.{with_version, IsLeastWide}
+use Rattle.file_convert.specs.Converted.{with_version, IsLeastWide}
 use Rattle.mesh_model.specs.declared.refusals.Refusal.{Refusal}
 use Rattle.mesh_model.specs.declared.refusals.Refusal.TheVariants.{File, Dag}
 use Rattle.mesh_model.specs.Accepted.{IsAccepted, IsMeshFault}

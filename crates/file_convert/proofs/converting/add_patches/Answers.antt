@@ -2,7 +2,7 @@ use Rattle.std.proofs.Common.{◌≡◌, Some, map, sym, ap, ◌∙◌, arith}
 use Rattle.std.specs.Prelude.{slice_get}
 use Rattle.std.specs.Arc.{arc_value}
 use Rattle.file_model.specs.Lists.{BodyLists}
-use Rattle.convert_laws.specs.ConvertLaws.{fits_at}
+use Rattle.file_convert.specs.ConvertLaws.{fits_at}
 use Rattle.file_convert.specs.Held.{lists_of}
 use Rattle.file_convert.proofs.Taken.{item_lists, patches_more}
 use Rattle.file_convert.proofs.Fitting.{rules_more}

@@ -4,7 +4,7 @@ use Rattle.file_model.specs.Lists.{FileLists}
 use Rattle.file_model.specs.Spelling.{file_text}
 use Rattle.file_model.specs.Rules.{IsPatchFile}
 use Rattle.file_laws.specs.Indexes.{between_most}
-use Rattle.convert_laws.specs.Converted.{with_version}
+use Rattle.file_convert.specs.Converted.{with_version}
 use Rattle.file_convert.specs.Held.{lists_of, held_file, with_all_nodes, with_all_patches}
 use Rattle.std.proofs.lemmas.List.{length-map}
 use Rattle.file_convert.proofs.Fitting.{converted_is_file}

@@ -1,5 +1,5 @@
-use Rattle.convert_laws.specs.ConvertLaws.{fits_or_wide, none_wide, wide_is_one}
-use Rattle.convert_laws.proofs.bodies_fit_or_one_is_the_least_wide.Goals as goal
+use Rattle.file_convert.specs.ConvertLaws.{fits_or_wide, none_wide, wide_is_one}
+use Rattle.file_convert.proofs.laws.bodies_fit_or_one_is_the_least_wide.Goals as goal
 
 pub returns-clause-either : goal.returns-clause-either
 returns-clause-either c = fits_or_wide

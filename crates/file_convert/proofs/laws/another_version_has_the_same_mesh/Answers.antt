@@ -1,5 +1,5 @@
-use Rattle.convert_laws.specs.ConvertLaws.{converted_accepted, accepted_converted}
-use Rattle.convert_laws.proofs.another_version_has_the_same_mesh.Goals as goal
+use Rattle.file_convert.specs.ConvertLaws.{converted_accepted, accepted_converted}
+use Rattle.file_convert.proofs.laws.another_version_has_the_same_mesh.Goals as goal
 
 pub returns-clause-accepted : goal.returns-clause-accepted
 returns-clause-accepted c = converted_accepted

@@ -1,5 +1,5 @@
-use Rattle.convert_laws.specs.ConvertLaws.{converted_is_file, file_fits, all_fit_1}
-use Rattle.convert_laws.proofs.a_file_that_fits_is_a_patch_file.Goals as goal
+use Rattle.file_convert.specs.ConvertLaws.{converted_is_file, file_fits, all_fit_1}
+use Rattle.file_convert.proofs.laws.a_file_that_fits_is_a_patch_file.Goals as goal
 
 pub returns-clause-fits : goal.returns-clause-fits
 returns-clause-fits c = converted_is_file

@@ -10,7 +10,7 @@ use Rattle.file_model.specs.Rules.{is_version, are_bodies, IsPatchFile}
 use Rattle.file_laws.specs.Bodies.{IsBody-from, is_body-from}
 use Rattle.file_laws.specs.Files.{are_bodies-parts, are_bodies-from}
 use Rattle.mesh_model.specs.Accepted.{IsAccepted}
-use Rattle.convert_laws.specs.Converted.{with_version, fits_version, AllFit, IsLeastWide}
+use Rattle.file_convert.specs.Converted.{with_version, fits_version, AllFit, IsLeastWide}
 
 -- ---- patch files
 converted_bodies : (here there : ℕ) (fs : List PatchField) (bs : List BodyLists) → IsTrue (are_bodies here fs bs) → list_all (fits_version there) bs ≡ true → IsTrue (are_bodies there fs bs)

@@ -10,7 +10,7 @@ use Rattle.grid_vertex.specs.declared.points.Point.{Point}
 use Rattle.file_model.specs.Spelling.{least, origin_of}
 use Rattle.file_model.specs.Rules.{is_near_origin, is_narrow}
 use Rattle.file_laws.specs.Origins.{least_below, least_reached}
-use Rattle.convert_laws.specs.Converted.{AllNear}
+use Rattle.file_convert.specs.Converted.{AllNear}
 
 -- ---- lists
 

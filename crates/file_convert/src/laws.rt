@@ -1,8 +1,6 @@
 //! The laws of a file in another version: its nodes, fields, points and corners stay, and so does its mesh.
 //!
-//! Code is only the laws' names, on functions that do nothing. The lemmas that lead to them stand in
-//! `specs/`, where the crate that converts files cites them.
-#![tactic(auto)]
+//! Code is only the laws' names, on functions that do nothing. The lemmas that lead to them stand in `specs/`.
 
 ghost use Rattle.std.specs.Prelude.{◌≡◌, ◌↔◌, ◌⊎◌, ℕ, true, List, IsTrue};
 ghost use Rattle.grid_vertex.specs.declared.points.Point.{Point};
@@ -10,7 +8,7 @@ ghost use Rattle.file_model.specs.Lists.{BodyLists, FileLists};
 ghost use Rattle.file_model.specs.Spelling.{file_text};
 ghost use Rattle.file_model.specs.Rules.{is_version, is_narrow, IsPatchFile};
 ghost use Rattle.mesh_model.specs.Accepted.{IsAccepted};
-ghost use Rattle.convert_laws.specs.Converted.{with_version, AllFit, IsLeastWide, AllNear};
+ghost use Rattle.file_convert.specs.Converted.{with_version, AllFit, IsLeastWide, AllNear};
 
 /// A file in another version has the same nodes, fields, and bodies of points and corners, and back in its
 /// own it is the file again.
