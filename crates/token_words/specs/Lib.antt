@@ -3,3 +3,4 @@ pub mod Evictions
 pub mod Sessions
 pub mod PlainTokens
 pub mod Batches
+pub mod Tries

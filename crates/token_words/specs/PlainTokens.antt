@@ -1,5 +1,5 @@
 -- What the plain words say of a patch. A patch that has no word has epoch 0 and no uses.
-use Rattle.std.specs.Prelude.{◌≡◌, ℕ, Bool, true, false, List, length, Option, Some, None, slice_get, vec_len, if◌then◌else◌, nat_eq}
+use Rattle.std.specs.Prelude.{◌≡◌, ℕ, Bool, true, false, List, length, Option, Some, None, slice_get, slice_index, vec_len, if◌then◌else◌, nat_eq}
 use Rattle.std.specs.List.{list_any}
 use Rattle.std.specs.Option.{option_map_or}
 use Rattle.token_words.specs.Sessions.{has_session}
@@ -66,6 +66,13 @@ pub record HasWords (words : List Word) (tokens : PlainTokens) : Type 0 where
   pub patches : patch_count tokens ≡ length words
   pub epochs : (patch : ℕ) → epoch_of tokens patch ≡ option_map_or (λ word. word.epoch) (slice_get words patch) 0
   pub pins : (patch : ℕ) → is_pinned tokens patch ≡ option_map_or (λ word. word.is_pinned) (slice_get words patch) false
+  pub unused : IsUnused tokens
+
+-- these epochs, one for each patch, and base patches that are pinned; no session uses a patch
+pub record HasEpochs (epochs base : List ℕ) (tokens : PlainTokens) : Type 0 where
+  pub patches : patch_count tokens ≡ length epochs
+  pub epochs_are : (patch : ℕ) → epoch_of tokens patch ≡ slice_index epochs patch
+  pub pins : (patch : ℕ) → is_pinned tokens patch ≡ list_any (nat_eq patch) base
   pub unused : IsUnused tokens
 
 locked_is_used : (entry : Option Entry) (session : ℕ)

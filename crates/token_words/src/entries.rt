@@ -1,6 +1,6 @@
 //! What the plain words keep for one patch.
 
-ghost use Rattle.std.specs.Prelude.{◌≡◌, ℕ, ◌+◌, ◌<◌, ◌≤◌, true, false, if◌then◌else◌};
+ghost use Rattle.std.specs.Prelude.{◌≡◌, ℕ, ◌+◌, ◌<◌, ◌≤◌, ◌||◌, true, false, nat_lt, if◌then◌else◌};
 ghost use Rattle.token_words.specs.Changes.{SetAt};
 ghost use Rattle.file_model.specs.Tries.{is_odd};
 ghost use Rattle.token_words.specs.Evictions.{epoch_after, uses_found, NeedsUse};
@@ -51,6 +51,15 @@ impl Entry {
             + (if self.now.word.is_pinned then 1 else 0) }
     {
         self.users.len() + u32::from(self.word.is_pinned)
+    }
+
+    /// Whether some session has the patch locked, or it is pinned.
+    pub fn is_fast(&self) -> bool
+        ensures { result ≡
+            (self.now.word.is_pinned
+            || nat_lt 0 (session_count (has_session self.now.lockers.mask))) }
+    {
+        self.word.is_pinned || self.lockers.len() > 0
     }
 
     /// A session uses the patch from now on, and has it locked if it is there.

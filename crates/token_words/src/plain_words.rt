@@ -1,9 +1,10 @@
 //! The words as plain data of one thread.
 
-ghost use Rattle.std.specs.Prelude.{◌≡◌, ℕ, ◌<◌, true, false, [], All, IfOk, refl};
-ghost use Rattle.token_words.specs.Changes.{SetAt};
-ghost use Rattle.token_words.specs.PlainTokens.{patch_count, epoch_of, is_pinned, is_user, is_locker, session_of, IsUnused, IsStart, HasWords, is_user-of_locker};
-ghost use Rattle.token_words.specs.Sessions.{IsSession};
+ghost use Rattle.std.specs.Prelude.{◌≡◌, ℕ, ◌<◌, ◌≤◌, ◌||◌, true, false, [], length, nat_lt, All, IfOk, refl};
+ghost use Rattle.token_words.specs.Changes.{SetAt, Stays};
+ghost use Rattle.token_words.specs.PlainTokens.{patch_count, epoch_of, is_pinned, is_user, is_locker, session_of, IsUnused, IsStart, HasWords, HasEpochs, is_user-of_locker};
+ghost use Rattle.token_words.specs.Sessions.{IsSession, session_count};
+ghost use Rattle.token_words.specs.declared.keeping.TheConstants.{LAST_EPOCH};
 
 use crate::answers::{Evict, Seen};
 use crate::entries::{Entry, Word};
@@ -75,6 +76,59 @@ impl PlainTokens {
             tokens.entries.push(Entry::unused(word))?;
         }
         Ok(tokens)
+    }
+
+    /// Words with these epochs, one for each patch, which no session uses. The patches of `base` are pinned.
+    pub fn with_epochs(alloc: Global, epochs: &[u32], base: &[u32]) -> Result<PlainTokens, NoMemory>
+        requires epochs { All (λ epoch. epoch ≤ LAST_EPOCH) epochs.now }
+        requires base { All (λ patch. patch < length epochs.now) base.now }
+        ensures { IfOk result (HasEpochs epochs.now base.now) }
+    {
+        let mut tokens = PlainTokens::unpinned(alloc, epochs)?;
+        for &patch in base {
+            tokens.pin_as_is(patch);
+        }
+        Ok(tokens)
+    }
+
+    /// The same where no patch is pinned.
+    fn unpinned(alloc: Global, epochs: &[u32]) -> Result<PlainTokens, NoMemory>
+        requires { All (λ epoch. epoch ≤ LAST_EPOCH) epochs.now }
+        ensures { IfOk result (HasEpochs epochs.now []) }
+    {
+        let mut tokens = PlainTokens {
+            entries: Vec::with_capacity(alloc, epochs.len())?,
+        };
+        for &epoch in epochs {
+            let is_pinned = false;
+            tokens
+                .entries
+                .push(Entry::unused(Word { epoch, is_pinned }))?;
+        }
+        Ok(tokens)
+    }
+
+    /// A patch is pinned, with the epoch that it has.
+    fn pin_as_is(&mut self, patch: u32)
+        requires { patch < patch_count self.old }
+        ensures patches { patch_count self.new ≡ patch_count self.old }
+        ensures epochs { Stays (epoch_of self.old) (epoch_of self.new) }
+        ensures pins { SetAt (is_pinned self.old) patch true (is_pinned self.new) }
+        ensures unused { IsUnused self.old → IsUnused self.new }
+    {
+        self.entries[patch as usize].word.is_pinned = true;
+    }
+
+    /// Whether some session has the patch locked, or it is pinned. A patch without a word is neither.
+    pub fn is_fast(&self, patch: u32) -> bool
+        ensures { result ≡
+            (is_pinned self.now patch
+            || nat_lt 0 (session_count (λ session. is_locker self.now session patch))) }
+    {
+        match self.entries.get(patch as usize) {
+            Some(entry) => entry.is_fast(),
+            None => false,
+        }
     }
 
     /// The pass of a session that uses no patch.
