@@ -2,7 +2,7 @@
 
 use crate::candidates::Candidate;
 use accepted_mesh::Mesh;
-use error_metric::Want;
+use error_metric::{Want, scores_of};
 use grid_vertex::NoMemory;
 use std::alloc::Global;
 use std::cmp::Reverse;
@@ -109,7 +109,3 @@ impl<'m> RoundRules<'m> {
         }
     }
 }
-
-mod scoring;
-
-use scoring::scores_of;

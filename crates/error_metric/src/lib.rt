@@ -4,9 +4,11 @@
 #![tactic(auto)]
 
 mod scores;
+mod scoring;
 mod views;
 mod wants;
 
+pub use scoring::scores_of;
 pub use views::View;
 pub use wants::Want;
 

@@ -3,7 +3,7 @@
 ghost use Rattle.std.specs.Prelude.{◌≡◌, IfOk};
 
 use accepted_mesh::Mesh;
-use error_metric::Want;
+use crate::wants::Want;
 use grid_vertex::NoMemory;
 use std::alloc::Global;
 

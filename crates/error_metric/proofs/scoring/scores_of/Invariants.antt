@@ -1,6 +1,6 @@
 -- The nodes before this one have their scores.
 use Rattle.std.proofs.Common.{◌≡◌, ◌≤◌, take, vec_len, vec_capacity}
-use Rattle.cut_refiner.proofs.round_rules.scoring.scores_of.Given as goal
+use Rattle.error_metric.proofs.scoring.scores_of.Given as goal
 
 abbrev pub invariant-loop-node : goal.invariant-loop-node
 invariant-loop-node g l = record {
