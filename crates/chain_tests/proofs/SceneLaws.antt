@@ -23,7 +23,7 @@ pub ready_at_start : {S : Type 0} (mesh : MeshSeen) (chain : ChainSeen S) (words
     → IsStart (length mesh.lists.index.fields) (outgoing mesh.lists.index.fields mesh.lists.root) words → IsOpened mesh.lists.index bytes budgets width chain.tiers → IsReady mesh chain words board
 ready_at_start mesh chain words board bytes budgets width some_budget facts alike is_empty start opens = record {
   same = alike;
-  fits = subst (λ (b : BoardSeen). Fits b mesh.lists) (sym is_empty) (fits_empty mesh.lists);
+  fits = subst (λ (b : BoardSeen). Fits b mesh.lists.index) (sym is_empty) (fits_empty mesh.lists);
   many = let count = start.patches in omega (arith, count);
   tied = starts_tied mesh.lists bytes budgets width (length mesh.lists.index.fields) chain.tiers words some_budget facts start opens;
   wishes = opened_wishes mesh.lists.index bytes budgets width chain.tiers (board_of (board_wish board) board.version) some_budget (λ first p. subst (λ (b : BoardSeen). board_wish b p ≡ 0) (sym is_empty) (no_wish mesh.lists p)) opens;
@@ -38,7 +38,7 @@ others_keep board tiers count all differ = record {
 pub ready_posted : {S : Type 0} (mesh : MeshSeen) (chain : ChainSeen S) (words : PlainTokens) (board new : BoardSeen) (session : ℕ) (view : Option Posted) → new ≡ with_view board session view → AllKeepWishes (board_of (board_wish new) new.version) chain.tiers → IsReady mesh chain words board → IsReady mesh chain words new
 ready_posted mesh chain words board new session view is keep ready = record {
   same = ready.same;
-  fits = subst (λ (b : BoardSeen). Fits b mesh.lists) (sym is) (fits_with_view board mesh.lists session view ready.fits);
+  fits = subst (λ (b : BoardSeen). Fits b mesh.lists.index) (sym is) (fits_with_view board mesh.lists.index session view ready.fits);
   many = ready.many;
   tied = ready.tied;
   wishes = keep;

@@ -12,7 +12,7 @@ use Rattle.wish_board.specs.Boards.{BoardSeen, Fits, board_wish}
 -- the chain's tiers may turn with these words and this board
 pub record IsReady {S : Type 0} (mesh : MeshSeen) (chain : ChainSeen S) (words : PlainTokens) (board : BoardSeen) : Type 0 where
   pub same : chain.mesh ≡ mesh
-  pub fits : Fits board mesh.lists
+  pub fits : Fits board mesh.lists.index
   pub many : length mesh.lists.index.fields ≤ patch_count words
   pub tied : IsTopTied (chain_of chain.tiers (epoch_of words)) (is_pinned words)
   pub wishes : AllKeepWishes (board_of (board_wish board) board.version) chain.tiers

@@ -2,8 +2,8 @@
 
 ghost use Rattle.std.specs.Prelude.{◌≡◌, IfOk};
 
-use accepted_mesh::Mesh;
 use crate::wants::Want;
+use accepted_mesh::Mesh;
 use grid_vertex::NoMemory;
 use std::alloc::Global;
 

@@ -52,7 +52,7 @@ unfolding board_with
 many_with board i view many = length-set board.views (i - 1) view ∙ many
 
 pub posted_for : (mesh : MeshLists) (board : BoardSeen) (i : ℕ) (view : Option Posted) → IsBoardFor mesh board → IsBoardFor mesh (board_with board i view)
-posted_for mesh board i view is = record { fits = fits_with_view board mesh i view is.fits; many = many_with board i view is.many }
+posted_for mesh board i view is = record { fits = fits_with_view board mesh.index i view is.fits; many = many_with board i view is.many }
 
 chosen_for : (had : Bool) (mesh : MeshLists) (board changed : BoardSeen) → IsBoardFor mesh changed → IsBoardFor mesh board → IsBoardFor mesh (cond had changed board)
 chosen_for true mesh board changed changed_is is = changed_is

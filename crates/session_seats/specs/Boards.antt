@@ -9,7 +9,7 @@ use Rattle.wish_board.specs.Boards.{BoardSeen, Fits, posted_view, with_view}
 
 -- the board is for the mesh, with a place for each session's view
 pub record IsBoardFor (mesh : MeshLists) (board : BoardSeen) : Type 0 where
-  pub fits : Fits board mesh
+  pub fits : Fits board mesh.index
   pub many : length board.views ≡ SESSIONS
 
 -- what a view posts: each node's score in it, and the score that a wanted node is above

@@ -1,8 +1,8 @@
 -- What holds of a new board, and of one on which a session has another view.
-use Rattle.std.proofs.Common.{◌≡◌, ℕ, ◌-◌, ◌<◌, List, length, replicate, Option, Some, None, sym, ap, subst, ◌∙◌, arith, refl, true, false, is_some, zero, suc}
+use Rattle.std.proofs.Common.{◌≡◌, ℕ, ◌-◌, ◌<◌, List, [], ◌∷◌, length, replicate, Option, Some, None, sym, ap, subst, ◌∙◌, arith, refl, true, false, is_some, zero, suc}
 use Rattle.std.specs.Prelude.{slice_get, slice_index_or, slice_set, IfSome}
 use Rattle.std.specs.List.{AllByRecursion}
-use Rattle.std.proofs.lemmas.List.{length-replicate, length-set, get_or_default}
+use Rattle.std.proofs.lemmas.List.{length-replicate, length-set, get_or_default, get_or-replicate}
 use Rattle.std.proofs.lemmas.Option.{slice_get-get_or}
 use Rattle.std.specs.Option.{option_map_or}
 use Rattle.token_words.specs.Sessions.{IsSession}
@@ -17,7 +17,8 @@ use Rattle.token_words.specs.declared.session_sets.TheConstants.{SESSIONS}
 use Rattle.wish_board.specs.Maxima.{AreScored, AreGreatest}
 use Rattle.wish_board.specs.Boards.{BoardSeen, without_view, board_wish, next_version, with_view, empty_board, no_posted}
 use Rattle.wish_board.specs.BoardView.{IsBoard}
-use Rattle.wish_board.proofs.MaximaLemmas.{none-greatest, wish-none}
+use Rattle.wish_board.specs.BoardLaws.{unwanted}
+use Rattle.wish_board.proofs.MaximaLemmas.{scored_at}
 
 -- ---- a new board
 
@@ -26,8 +27,10 @@ unfolding AreScored
 none-scored nodes sessions i view at = absurd (none_there sessions i view at)
 
 no_greatest : (nodes sessions : ℕ) → AreGreatest nodes (replicate sessions None) (replicate nodes 0)
-no_greatest nodes zero = none-greatest nodes (replicate nodes 0) refl
-no_greatest nodes (suc sessions) = let less = no_greatest nodes sessions in record { all_nodes = less.all_nodes; each = λ v within. less.each v within ∙ sym (wish-none (replicate sessions None) v) }
+no_greatest nodes sessions = record {
+  all_nodes = length-replicate nodes 0;
+  each = λ v within. get_or-replicate nodes v 0 0 within ∙ sym (unwanted sessions v);
+}
 
 abbrev no_view : Option Posted
 no_view = None
@@ -54,6 +57,16 @@ empty_is mesh views fields maxima same none zeros =
 pub scored-set : (nodes : ℕ) (views : List (Option Posted)) (i : ℕ) (o : Option Posted) → AreScored nodes views → IfSome o (λ (v : Posted). length v.scores ≡ nodes) → AreScored nodes (slice_set views i o)
 unfolding AreScored
 scored-set nodes views i o are here = each-set (λ _ (v : Posted). length v.scores ≡ nodes) views i o are (λ view is. subst (λ (p : Option Posted). IfSome p (λ (v : Posted). length v.scores ≡ nodes)) is here)
+
+pub earlier-scored : (nodes : ℕ) (views : List (Option Posted)) (i : ℕ) (o : Option Posted) → AreScored nodes views → i < length views → o ≡ slice_index_or views i o → IfSome o (λ (v : Posted). length v.scores ≡ nodes)
+earlier-scored nodes views i None are within is = record {}
+earlier-scored nodes views i (Some view) are within is = scored_at nodes views i (Some view) view are within is refl
+
+-- a view that is put back into its slot leaves the views as they were
+pub set-back : (views : List (Option Posted)) (i : ℕ) (view o : Option Posted) → o ≡ slice_index_or views i o → slice_set (slice_set views i view) i o ≡ views
+set-back [] i view o is = refl
+set-back (x ∷ views) zero view o is = ap (λ (p : Option Posted). p ∷ views) is
+set-back (x ∷ views) (suc i) view o is = ap (λ (vs : List (Option Posted)). x ∷ vs) (set-back views i view o is)
 
 -- the board with other views and the greatest wishes over them
 abbrev pub moved : BoardSeen → List (Option Posted) → ℕ → List ℕ → BoardSeen

@@ -1,3 +1,2 @@
-mod ScoreLemmas
 mod MaximaLemmas
 mod BoardLemmas

@@ -1,6 +1,7 @@
 -- A board of posted views, and its changes.
 use Rattle.std.specs.Prelude.{◌≡◌, ℕ, ◌+◌, ◌-◌, ◌%◌, ◌^◌, List, length, replicate, Option, None, is_some, slice_index_or, slice_set, if◌then◌else◌}
 use Rattle.file_model.specs.declared.fields.PatchField.{PatchField}
+use Rattle.file_model.specs.Lists.{IndexLists}
 use Rattle.mesh_model.specs.Meshes.{MeshLists}
 use Rattle.tier_model.specs.Ranks.{Posted, wish_of}
 use Rattle.token_words.specs.declared.session_sets.TheConstants.{SESSIONS}
@@ -13,10 +14,10 @@ pub record BoardSeen : Type 0 where
   pub views : List (Option Posted)
   pub version : ℕ
 
--- the mesh has the board's nodes and patches
-pub record Fits (board : BoardSeen) (mesh : MeshLists) : Type 0 where
-  pub nodes : board.nodes ≡ length mesh.index.nodes
-  pub fields : board.fields ≡ mesh.index.fields
+-- the index has the board's nodes and patches
+pub record Fits (board : BoardSeen) (index : IndexLists) : Type 0 where
+  pub nodes : board.nodes ≡ length index.nodes
+  pub fields : board.fields ≡ index.fields
 
 -- the wish of a patch over the posted views
 abbrev pub board_wish : BoardSeen → ℕ → ℕ

@@ -1,4 +1,5 @@
 pub mod Maxima
+pub mod PostedSlots
 pub mod Boards
 pub mod BoardView
 pub mod BoardLaws

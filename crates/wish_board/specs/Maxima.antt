@@ -1,5 +1,5 @@
 -- The greatest wish of each node over the views that were posted.
-use Rattle.std.specs.Prelude.{◌≡◌, ℕ, ◌<◌, ◌≤◌, max, List, length, Option, Some, slice_get, slice_index}
+use Rattle.std.specs.Prelude.{◌≡◌, ℕ, ◌<◌, ◌≤◌, max, Bool, ◌&&◌, ◌==◌, nat_lt, List, length, Option, Some, slice_get, slice_index, if◌then◌else◌}
 use Rattle.tier_model.specs.Ranks.{Posted, view_wish, node_wish}
 
 -- each view that was posted has a score for each node
@@ -15,4 +15,14 @@ pub record AreGreatest (nodes : ℕ) (views : List (Option Posted)) (greatest : 
 pub record AreRaised (view : Posted) (nodes : ℕ) (before now : List ℕ) : Type 0 where
   pub all_nodes : length now ≡ length before
   pub raised : (v : ℕ) → v < nodes → slice_index now v ≡ max (view_wish view v) (slice_index before v)
+  pub rest : (v : ℕ) → nodes ≤ v → slice_index now v ≡ slice_index before v
+
+-- the view wants the node, whose greatest wish is this view's
+abbrev pub leads : Posted → ℕ → List ℕ → Bool
+leads view v greatest = nat_lt 0 (view_wish view v) && (view_wish view v == slice_index greatest v)
+
+-- of the first so many nodes those that the view led have their greatest wish over the views, and the others keep theirs
+pub record AreLowered (left : Posted) (views : List (Option Posted)) (nodes : ℕ) (before now : List ℕ) : Type 0 where
+  pub all_nodes : length now ≡ length before
+  pub lowered : (v : ℕ) → v < nodes → slice_index now v ≡ (if leads left v before then node_wish views v else slice_index before v)
   pub rest : (v : ℕ) → nodes ≤ v → slice_index now v ≡ slice_index before v

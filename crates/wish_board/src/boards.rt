@@ -1,13 +1,14 @@
 //! The board.
 
-use crate::maxima::find_greatest;
-use crate::views::{PostedView, no_views};
+use crate::maxima::follow;
+use crate::views::{ReadyView, no_views};
 use accepted_mesh::Mesh;
 use error_metric::Want;
 use file_model::PatchField;
 use grid_vertex::NoMemory;
 use std::alloc::Global;
 use std::marker::Model;
+use std::mem;
 use tier_budget::Wishes;
 
 /// The view that each session posted, and the wishes of a mesh's patches. The version tells whether a
@@ -15,7 +16,7 @@ use tier_budget::Wishes;
 #[derive(Drop)]
 pub struct WishBoard {
     fields: Vec<PatchField>,
-    views: Vec<Option<PostedView>>,
+    views: Vec<Option<ReadyView>>,
     greatest: Vec<u64>,
     version: u64,
 }
@@ -36,7 +37,7 @@ impl WishBoard {
     ghost use Rattle.std.specs.Prelude.{◌≡◌, Some, None, length, IfOk, OnOk, OnErr, IfSome};
     ghost use Rattle.tier_model.specs.Ranks.{Posted};
     ghost use Rattle.token_words.specs.Sessions.{IsSession};
-    ghost use Rattle.wish_board.specs.Boards.{Fits, posted_view, empty_board, with_view, without_view};
+    ghost use Rattle.wish_board.specs.Boards.{Fits, posted_view, view_of, empty_board, with_view, without_view};
 
     /// A board for the mesh, without views.
     pub fn new(alloc: Global, mesh: &Mesh) -> Result<WishBoard, NoMemory>
@@ -55,37 +56,55 @@ impl WishBoard {
     /// as it was. The session is 1 to 64; condition: the mesh has the board's nodes and patches.
     pub fn post<W: Want>(&mut self, mesh: &Mesh, session: u32, want: &W) -> Result<(), NoMemory>
         requires session { IsSession session }
-        requires mesh { Fits self.old mesh.now.lists }
+        requires mesh { Fits self.old mesh.now.lists.index }
         ensures posted { OnOk result
             (self.new
             ≡ with_view self.old session
             (Some (posted_view (W.scores want.now mesh.now.lists) (W.least want.now)))) }
         ensures refused { OnErr result (self.new ≡ self.old) }
     {
-        let view = PostedView::of(*self.greatest.allocator(), mesh, want)?;
-        self.put(session, Some(view));
+        let view = ReadyView::of(*self.greatest.allocator(), mesh, want)?;
+        self.post_ready(session, view);
         Ok(())
     }
 
-    /// Takes off what the session posted; without a view the board stays as it is. The session is 1 to 64.
-    pub fn take_off(&mut self, session: u32)
-        requires { IsSession session }
-        ensures { self.new ≡ without_view self.old session }
+    /// Posts the view in place of what the session posted before, and hands that out. It takes no memory and
+    /// scores nothing, so a lock around the board is held for short. The session is 1 to 64; condition: the
+    /// view was scored over a mesh with the board's nodes.
+    pub fn post_ready(&mut self, session: u32, view: ReadyView) -> Option<ReadyView>
+        requires session { IsSession session }
+        requires scored { length view.scores ≡ self.old.nodes }
+        ensures posted { self.new ≡ with_view self.old session (Some view) }
+        ensures earlier { result ≡ view_of self.old session }
     {
-        if self.views[session as usize - 1].is_some() {
-            self.put(session, None);
-        }
+        self.put(session, Some(view))
     }
 
-    // This is the session's view from now on.
-    fn put(&mut self, session: u32, view: Option<PostedView>)
+    /// Takes off what the session posted, and hands it out; without a view the board stays as it is. The
+    /// session is 1 to 64.
+    pub fn take_off(&mut self, session: u32) -> Option<ReadyView>
+        requires { IsSession session }
+        ensures board { self.new ≡ without_view self.old session }
+        ensures earlier { result ≡ view_of self.old session }
+    {
+        if self.views[session as usize - 1].is_none() {
+            return None;
+        }
+        self.put(session, None)
+    }
+
+    // This is the session's view from now on. Hands out the earlier one.
+    fn put(&mut self, session: u32, view: Option<ReadyView>) -> Option<ReadyView>
         requires session { IsSession session }
         requires scored { IfSome view (λ (v : Posted). length v.scores ≡ self.old.nodes) }
-        ensures { self.new ≡ with_view self.old session view }
+        ensures board { self.new ≡ with_view self.old session view }
+        ensures earlier { result ≡ view_of self.old session }
     {
-        self.views[session as usize - 1] = view;
-        find_greatest(&mut self.greatest, &self.views);
+        let slot = session as usize - 1;
+        let earlier = mem::replace(&mut self.views[slot], view);
+        follow(&mut self.greatest, &earlier, &self.views, slot);
         self.version = self.version.wrapping_add(1);
+        earlier
     }
 }
 

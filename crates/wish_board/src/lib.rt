@@ -5,9 +5,11 @@
 
 mod boards;
 mod maxima;
+mod posted_slots;
 mod views;
 
 pub use boards::WishBoard;
+pub use views::ReadyView;
 
 #[cfg(test)]
 mod tests;

@@ -37,7 +37,7 @@ fn view(eye: [i32; 3], focal: u32, threshold: u32) -> Result<View, Fail> {
 
 /// The wish of each patch.
 fn wishes_of(alloc: Global, board: &WishBoard, mesh: &Mesh) -> Result<Vec<u64>, NoMemory>
-    requires { Fits board.now mesh.now.lists }
+    requires { Fits board.now mesh.now.lists.index }
 {
     let mut wishes = Vec::new(alloc);
     for patch in 0..mesh.index().patch_count() {
@@ -55,7 +55,7 @@ fn expect_board(
     wishes: [u64; 7],
     version: u64,
 ) -> Result<(), Fail>
-    requires { Fits board.now mesh.now.lists }
+    requires { Fits board.now mesh.now.lists.index }
 {
     let found = wishes_of(alloc, board, mesh)?;
     assert_eq!(rt; found.as_slice(), wishes.as_slice());

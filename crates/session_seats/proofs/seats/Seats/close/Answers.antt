@@ -13,7 +13,7 @@ pub returns-clause-does : goal.returns-clause-does
 returns-clause-does c =
     let i = c.self.inside in
     let r = c.release-unlocks in
-    close_does i.mesh.now.lists i.seats.items r.new.self c.self.view_is c.self.invariant c.args.session (words_seen c.args.words.now) c.args.self.now r.result (words_seen r.new.words) r.ensures.frees c.args.board.now c.requires.board c.requires.few c.take_off.new.self c.take_off.ensures
+    close_does i.mesh.now.lists i.seats.items r.new.self c.self.view_is c.self.invariant c.args.session (words_seen c.args.words.now) c.args.self.now r.result (words_seen r.new.words) r.ensures.frees c.args.board.now c.requires.board c.requires.few c.take_off.new.self c.take_off.ensures.board
 
 pub returns-clause-seated : goal.returns-clause-seated
 returns-clause-seated c =
@@ -31,4 +31,4 @@ pub returns-clause-board : goal.returns-clause-board
 returns-clause-board c =
     let i = c.self.inside in
     let r = c.release-unlocks in
-    close_board i.mesh.now.lists i.seats.items r.new.self c.self.view_is c.self.invariant c.args.session (words_seen c.args.words.now) c.args.self.now r.result (words_seen r.new.words) r.ensures.frees c.args.board.now c.take_off.new.self c.requires.board r.ensures.mesh c.take_off.ensures
+    close_board i.mesh.now.lists i.seats.items r.new.self c.self.view_is c.self.invariant c.args.session (words_seen c.args.words.now) c.args.self.now r.result (words_seen r.new.words) r.ensures.frees c.args.board.now c.take_off.new.self c.requires.board r.ensures.mesh c.take_off.ensures.board
