@@ -16,15 +16,15 @@ use view_outside::Store;
 
 /// A file in a store as a supply of the lowest tier: it has every patch of the file's index.
 #[derive(Drop)]
-pub struct StoreSupply<'a, S: Store> {
-    pub index: &'a Index,
-    pub store: &'a mut S,
+pub struct StoreSupply<'i, 's, S: Store> {
+    pub index: &'i Index,
+    pub store: &'s mut S,
     pub file: u32,
     ghost is_there: { HasFile (S.files store.now) file } by { HasFile-prop (S.files store.now)
         file },
 }
 
-impl<'a, S: Store> Supply for StoreSupply<'a, S> {
+impl<'i, 's, S: Store> Supply for StoreSupply<'i, 's, S> {
     ghost Place = { StorePlace };
 
     ghost place = { λ supply.
