@@ -17,7 +17,7 @@ mod missing;
 mod tiers;
 mod wishes;
 
-pub use coming::{first_patch, first_without_body};
+pub use coming::{comes, first_patch, first_without_body};
 pub use tier_model::{Abort, Coming, Turn};
 pub use tiers::Tier;
 pub use wishes::Wishes;

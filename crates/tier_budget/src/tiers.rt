@@ -187,6 +187,14 @@ impl Tier {
         has_mark(&self.base, patch)
     }
 
+    /// Whether the patch is pinned: held, and never given up.
+    pub fn is_pinned(&self, patch: u32) -> bool
+        requires { patch < count self.now.state }
+        ensures { result ≡ is_marked self.now.state.pinned patch }
+    {
+        has_mark(&self.pinned, patch)
+    }
+
     /// The version of the wishes at which `renew` was called last, and 0 before.
     pub fn version(&self) -> u64
         ensures { result ≡ self.now.state.version }
