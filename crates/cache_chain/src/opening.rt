@@ -52,7 +52,7 @@ fn empty_tiers(
 {
     let mut tiers = ArrayVec::new_in(alloc);
     for budget in budgets {
-        tiers.push(Tier::with_width(alloc, index, *budget, width)?);
+        tiers.push(Tier::silent(alloc, index, *budget, width)?);
     }
     Ok(tiers)
 }

@@ -1,3 +1,5 @@
+pub mod Pasts
+pub mod JournalView
 pub mod Heads
 pub mod Marked
 pub mod MarksView

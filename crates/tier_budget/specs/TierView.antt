@@ -1,5 +1,5 @@
 -- What callers see of a tier, and what holds of it.
-use Rattle.std.specs.Prelude.{◌≡◌, ℕ, ◌-◌, ◌<◌, ◌≤◌, is_some, vec_len, vec_capacity}
+use Rattle.std.specs.Prelude.{◌≡◌, ℕ, ◌<◌, ◌≤◌, Bool, is_some, vec_capacity}
 use Rattle.std.specs.List.{count_by}
 use Rattle.tier_model.specs.declared.turns.Turn.{Turn}
 use Rattle.tier_model.specs.Places.{Needs}
@@ -8,10 +8,11 @@ use Rattle.tier_budget.specs.Heads.{bodies_in}
 use Rattle.tier_budget.specs.Heaps.{IsLeaving, IsMissing}
 use Rattle.tier_budget.specs.declared.tiers.Tier.TheInside.{Inside}
 
--- a tier, and for how many more entries its journal has room
+-- a tier, for how many more entries its journal has room, and whether it keeps its journal
 pub record TierSeen : Type 0 where
   pub state : TierState
   pub spare : ℕ
+  pub records : Bool
 
 -- what the entry needs is there
 abbrev pub Allows : TierState → Turn → Type 0
@@ -35,11 +36,11 @@ state_of t = record {
   held = bodies_in t.held.items;
   came = bodies_in t.came.items;
   coming = t.coming.items;
-  journal = t.journal.items;
+  journal = t.journal.entries;
 }
 
 abbrev pub tier_view : Inside → TierSeen
-tier_view t = record { state = state_of t; spare = vec_capacity t.journal - vec_len t.journal }
+tier_view t = record { state = state_of t; spare = t.journal.spare; records = t.journal.records }
 
 -- a tier, with its sums, and room for all that may come
 pub record IsSoundTier (s : TierState) (bytes pinned held capacity : ℕ) : Type 0 where

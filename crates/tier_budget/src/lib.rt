@@ -10,10 +10,12 @@
 
 mod aside;
 mod coming;
+mod journals;
 mod leaving;
 mod lists;
 mod marks;
 mod missing;
+mod past;
 mod tiers;
 mod wishes;
 

@@ -1,5 +1,6 @@
 //! Tiers: how they are made, and what is read of them.
 
+use crate::journals::Journal;
 use crate::lists::{base_patches, body_sizes, no_bodies};
 use crate::marks::{Marks, has_mark};
 use grid_vertex::NoMemory;
@@ -30,7 +31,7 @@ pub struct Tier {
     held: Vec<Option<Arc<Body>>>,
     came: Vec<Option<Arc<Body>>>,
     coming: Vec<Coming>,
-    journal: Vec<Turn>,
+    journal: Journal,
     leaving: PairHeap,
     missing: PairHeap,
 }
@@ -48,7 +49,7 @@ impl Model for Tier {
 }
 
 impl Tier {
-    ghost use Rattle.std.specs.Prelude.{◌≡◌, ◌<◌, ◌≤◌, Some, None, slice_get, IfOk, IfSome, MatchOption, OnOk};
+    ghost use Rattle.std.specs.Prelude.{◌≡◌, ◌<◌, ◌≤◌, [], true, false, Some, None, slice_get, IfOk, IfSome, IsOk, MatchOption, OnOk};
     ghost use Rattle.std.specs.Arc.{arc_value};
     ghost use Rattle.tier_model.specs.Places.{is_marked};
     ghost use Rattle.tier_model.specs.Tiers.{count, load, pinned_bytes, IsWidth, IsBodyFor, IsTier};
@@ -57,7 +58,8 @@ impl Tier {
 
     /// A tier of the index that holds nothing, and takes one patch at a time. The budget is in bytes.
     pub fn new(alloc: Global, index: &Index, budget: u64) -> Result<Tier, NoMemory>
-        ensures { IfOk result (λ tier. tier.state ≡ fresh index.now budget 1) }
+        ensures state { IfOk result (λ tier. tier.state ≡ fresh index.now budget 1) }
+        ensures records { IfOk result (λ tier. tier.records ≡ true) }
     {
         Tier::with_width(alloc, index, budget, 1)
     }
@@ -71,7 +73,38 @@ impl Tier {
         width: u32,
     ) -> Result<Tier, NoMemory>
         requires { IsWidth width }
-        ensures { IfOk result (λ tier. tier.state ≡ fresh index.now budget width) }
+        ensures state { IfOk result (λ tier. tier.state ≡ fresh index.now budget width) }
+        ensures records { IfOk result (λ tier. tier.records ≡ true) }
+    {
+        Tier::with_journal(alloc, index, budget, width, true)
+    }
+
+    /// The same, but the tier doesn't keep its journal, which contracts alone know. No other call of such a
+    /// tier takes memory.
+    pub fn silent(
+        alloc: Global,
+        index: &Index,
+        budget: u64,
+        width: u32,
+    ) -> Result<Tier, NoMemory>
+        requires { IsWidth width }
+        ensures state { IfOk result (λ tier. tier.state ≡ fresh index.now budget width) }
+        ensures records { IfOk result (λ tier. tier.records ≡ false) }
+    {
+        Tier::with_journal(alloc, index, budget, width, false)
+    }
+
+    /// A tier of the index that holds nothing, and keeps its journal or doesn't.
+    fn with_journal(
+        alloc: Global,
+        index: &Index,
+        budget: u64,
+        width: u32,
+        records: bool,
+    ) -> Result<Tier, NoMemory>
+        requires { IsWidth width }
+        ensures state { IfOk result (λ tier. tier.state ≡ fresh index.now budget width) }
+        ensures records { IfOk result (λ tier. tier.records ≡ records) }
     {
         let patches = index.patch_count();
         let unmarked = patches as usize;
@@ -91,20 +124,22 @@ impl Tier {
             held: no_bodies(alloc, patches)?,
             came: no_bodies(alloc, patches)?,
             coming: Vec::with_capacity(alloc, width as usize)?,
-            journal: Vec::new(alloc),
+            journal: Journal::new(alloc, records),
             leaving: PairHeap::with_ids(alloc, patches)?,
             missing: PairHeap::with_ids(alloc, patches)?,
         })
     }
 
-    /// Makes room for an entry of the journal. A refused call leaves the tier as it was.
+    /// Makes room for an entry of the journal. A refused call leaves the tier as it was; one of a tier that
+    /// doesn't keep its journal takes no memory.
     pub fn make_place(&mut self) -> Result<(), NoMemory>
         ensures state { self.new.state ≡ self.old.state }
         ensures kept { IsTier self.new.state }
         ensures place { OnOk result (1 ≤ self.new.spare) }
+        ensures records { self.new.records ≡ self.old.records }
+        ensures silent { self.old.records ≡ false → IsOk result }
     {
-        self.journal.reserve(1)?;
-        Ok(())
+        self.journal.reserve_one()
     }
 
     /// The body of the patch, None exactly where the tier doesn't hold the patch.
@@ -202,11 +237,14 @@ impl Tier {
         self.version
     }
 
-    /// All that the tier did, but for turns without an entry.
-    pub fn journal(&self) -> &[Turn]
-        ensures { result.now ≡ self.now.state.journal }
+    /// All that the tier did, but for turns without an entry. None exactly where the tier doesn't keep its
+    /// journal.
+    pub fn journal(&self) -> Option<&[Turn]>
+        ensures { MatchOption result (self.now.records ≡ false)
+            (λ journal.
+            (self.now.records ≡ true) × (journal.now ≡ self.now.state.journal)) }
     {
-        &self.journal
+        self.journal.entries()
     }
 }
 
@@ -229,7 +267,7 @@ impl MadeWith<Global> for Tier {
             held: Vec::new(alloc),
             came: Vec::new(alloc),
             coming: Vec::new(alloc),
-            journal: Vec::new(alloc),
+            journal: Journal::new(alloc, true),
             leaving: PairHeap::new(alloc),
             missing: PairHeap::new(alloc),
         }

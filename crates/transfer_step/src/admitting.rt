@@ -56,6 +56,7 @@ fn find_missing<F: Fn(u32) -> bool>(tier: &mut Tier, fits: F) -> Option<u32>
         → result ≡ candidate told tier.old.state }
     ensures same { tier.new.state ≡ tier.old.state }
     ensures spare { tier.new.spare ≡ tier.old.spare }
+    ensures records { tier.new.records ≡ tier.old.records }
 {
     tier.greatest_missing(fits)
 }
@@ -75,6 +76,7 @@ fn find_candidate<B: Supply, K: Keeper>(
         tier.old.state }
     ensures same { tier.new.state ≡ tier.old.state }
     ensures spare { tier.new.spare ≡ tier.old.spare }
+    ensures records { tier.new.records ≡ tier.old.records }
 {
     let room = tier.budget().saturating_sub(tier.pinned_bytes());
     find_missing(
@@ -106,6 +108,7 @@ pub fn seek<B: Supply, K: Keeper>(
         tier.old.state }
     ensures same { tier.new.state ≡ tier.old.state }
     ensures spare { tier.new.spare ≡ tier.old.spare }
+    ensures records { tier.new.records ≡ tier.old.records }
 {
     if tier.coming().len() < tier.width() as usize {
         find_candidate(index, tier, below, keeper)

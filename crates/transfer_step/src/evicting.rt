@@ -39,6 +39,7 @@ fn evict<K: Keeper>(tier: &mut Tier, keeper: &mut K, patch: u32) -> Turn
         ≡ evicting K.has_words tier.old.state patch (uses_in result) }
     ensures kind { IsLeaving result }
     ensures kept { IsTier tier.new.state }
+    ensures records { tier.new.records ≡ tier.old.records }
     ensures epochs { TurnsEpochs K.has_words result (K.epochs keeper.old) (K.epochs keeper.new) }
     ensures free { K.has_words ≡ true → K.tells_sets ≡ true
         → IfEvict result (λ p. session_count (λ session. K.session_uses keeper.old session p) ≡ 0) }
@@ -83,6 +84,7 @@ pub fn evict_or_rest<K: Keeper>(tier: &mut Tier, keeper: &mut K, ahead: Option<u
         ≡ evicting K.has_words tier.old.state p (uses_in result)) }
     ensures kind { IsLeaving result }
     ensures kept { IsTier tier.new.state }
+    ensures records { tier.new.records ≡ tier.old.records }
     ensures epochs { TurnsEpochs K.has_words result (K.epochs keeper.old) (K.epochs keeper.new) }
     ensures free { K.has_words ≡ true → K.tells_sets ≡ true
         → IfEvict result (λ p. session_count (λ session. K.session_uses keeper.old session p) ≡ 0) }

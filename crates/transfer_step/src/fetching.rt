@@ -34,6 +34,7 @@ pub fn fetch_patch<B: Supply>(
     ensures kind { IfOk result IsFetching }
     ensures none { OnErr result (tier.new.state ≡ tier.old.state) }
     ensures kept { IsTier tier.new.state }
+    ensures records { tier.new.records ≡ tier.old.records }
     ensures brings { IfOk result (λ a. BringsBody tier.old.state.sizes a tier.new.state) }
     ensures got { IfOk result
         (λ a. IfGot a (λ p. B.gives (B.place below.old) p (body_at tier.new.state p))) }

@@ -34,6 +34,7 @@ fn commit_patch<K: Keeper>(tier: &mut Tier, keeper: &mut K, patch: u32)
         → IsTied tier.old.state (K.epochs keeper.old) (K.pinned keeper.old) }
     ensures state { tier.new.state ≡ committed tier.old.state patch }
     ensures kept { IsTier tier.new.state }
+    ensures records { tier.new.records ≡ tier.old.records }
     ensures epochs { TurnsEpochs K.has_words (Turn.Commit patch) (K.epochs keeper.old)
         (K.epochs keeper.new) }
     ensures misses { K.tells_misses ≡ true → K.misses keeper.new ≡ K.misses keeper.old }
@@ -70,6 +71,7 @@ pub fn do_rule<B: Supply, K: Keeper>(
         tier.old.state a tier.new.state) }
     ensures none { OnErr result (tier.new.state ≡ tier.old.state) }
     ensures kept { IsTier tier.new.state }
+    ensures records { tier.new.records ≡ tier.old.records }
     ensures brings { IfOk result (λ a. BringsBody tier.old.state.sizes a tier.new.state) }
     ensures got { IfOk result
         (λ a. IfGot a (λ p. B.gives (B.place below.old) p (body_at tier.new.state p))) }

@@ -27,6 +27,7 @@ pub fn take_wishes<W: Wishes>(tier: &mut Tier, wishes: &W)
     ensures state { tier.new.state
         ≡ begun (board_of (W.wish_of wishes.now) (W.version_of wishes.now)) tier.old.state }
     ensures kept { IsTier tier.new.state }
+    ensures records { tier.new.records ≡ tier.old.records }
     ensures spare { tier.new.spare ≡ tier.old.spare }
 {
     let _ = tier.budget();
@@ -60,6 +61,7 @@ pub fn ranked_turn<B: Supply, K: Keeper>(
         tier.old.state a tier.new.state) }
     ensures none { OnErr result (tier.new.state ≡ tier.old.state) }
     ensures kept { IsTier tier.new.state }
+    ensures records { tier.new.records ≡ tier.old.records }
     ensures same { KeepsSetup tier.old.state tier.new.state }
     ensures journal { IfOk result
         (λ a. tier.new.state.journal ≡ tier.old.state.journal ++ entries_of a) }
@@ -140,6 +142,7 @@ pub fn turn<B: Supply, W: Wishes, K: Keeper>(
         (tier.new.state
         ≡ begun (board_of (W.wish_of wishes.now) (W.version_of wishes.now)) tier.old.state) }
     ensures kept { IsTier tier.new.state }
+    ensures records { tier.new.records ≡ tier.old.records }
     ensures same { KeepsSetup tier.old.state tier.new.state }
     ensures wishes { KeepsWishes (board_of (W.wish_of wishes.now) (W.version_of wishes.now))
         tier.new.state }

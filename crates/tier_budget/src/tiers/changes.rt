@@ -29,6 +29,7 @@ impl Tier {
         ensures state { self.new.state ≡ with_pin self.old.state body.value }
         ensures kept { IsTier self.new.state }
         ensures spare { self.new.spare ≡ self.old.spare }
+        ensures records { self.new.records ≡ self.old.records }
     {
         let patch = body.patch();
         let size = body.size();
@@ -49,6 +50,7 @@ impl Tier {
         ensures state { self.new.state ≡ reserved self.old.state patch }
         ensures kept { IsTier self.new.state }
         ensures spare { self.new.spare + 1 ≡ self.old.spare }
+        ensures records { self.new.records ≡ self.old.records }
     {
         self.load += self.sizes[patch as usize];
         self.coming.push_reserved(Coming {
@@ -68,6 +70,7 @@ impl Tier {
         ensures state { self.new.state ≡ arrived self.old.state body.value.patch body.value }
         ensures kept { IsTier self.new.state }
         ensures spare { self.new.spare + 1 ≡ self.old.spare }
+        ensures records { self.new.records ≡ self.old.records }
     {
         let patch = body.patch();
         self.came[patch as usize] = Some(body);
@@ -85,6 +88,7 @@ impl Tier {
             (λ p. self.new.state ≡ committed self.old.state p) }
         ensures kept { IsTier self.new.state }
         ensures spare { self.new.spare + 1 ≡ self.old.spare }
+        ensures records { self.new.records ≡ self.old.records }
     {
         let patch = match first_patch(&self.coming) {
             Some(patch) => patch,
@@ -109,6 +113,7 @@ impl Tier {
             (λ p. self.new.state ≡ aborted self.old.state p why) }
         ensures kept { IsTier self.new.state }
         ensures spare { self.new.spare + 1 ≡ self.old.spare }
+        ensures records { self.new.records ≡ self.old.records }
     {
         let patch = match first_without_body(&self.coming) {
             Some(patch) => patch,
@@ -138,6 +143,7 @@ impl Tier {
         ensures state { self.new.state ≡ dropped self.old.state patch }
         ensures kept { IsTier self.new.state }
         ensures spare { self.new.spare + 1 ≡ self.old.spare }
+        ensures records { self.new.records ≡ self.old.records }
     {
         self.held[patch as usize] = None;
         self.held_count -= 1;
@@ -162,6 +168,7 @@ impl Tier {
         ensures state { self.new.state ≡ passed_over self.old.state patch }
         ensures kept { IsTier self.new.state }
         ensures spare { self.new.spare ≡ self.old.spare }
+        ensures records { self.new.records ≡ self.old.records }
     {
         self.passed.mark(patch);
         self.leaving.set(patch, None);
@@ -172,6 +179,7 @@ impl Tier {
         ensures state { self.new.state ≡ calmed self.old.state }
         ensures kept { IsTier self.new.state }
         ensures spare { self.new.spare ≡ self.old.spare }
+        ensures records { self.new.records ≡ self.old.records }
     {
         put_back(
             &mut self.leaving,
@@ -188,6 +196,7 @@ impl Tier {
         ensures state { self.new.state ≡ renewed self.old.state version }
         ensures kept { IsTier self.new.state }
         ensures spare { self.new.spare ≡ self.old.spare }
+        ensures records { self.new.records ≡ self.old.records }
     {
         self.calm();
         self.version = version;
@@ -208,6 +217,7 @@ impl Tier {
         ensures state { self.new.state ≡ ranked self.old.state (W.wish_of wishes.now) }
         ensures kept { IsTier self.new.state }
         ensures spare { self.new.spare ≡ self.old.spare }
+        ensures records { self.new.records ≡ self.old.records }
     {
         copy_wishes(&mut self.wishes, wishes);
         rank_leaving(

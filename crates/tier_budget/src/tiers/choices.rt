@@ -17,6 +17,7 @@ impl Tier {
             (outranks (kept_wish self.old.state)) result }
         ensures same { self.new.state ≡ self.old.state }
         ensures spare { self.new.spare ≡ self.old.spare }
+        ensures records { self.new.records ≡ self.old.records }
     {
         self.missing.greatest_where(fits)
     }

@@ -98,7 +98,10 @@ fn may_pin(tier: &Tier, body: &Body) -> bool
     if tier.held(patch).is_some() {
         return false;
     }
-    if !tier.journal.is_empty() {
+    let Some(journal) = tier.journal() else {
+        return false;
+    };
+    if !journal.is_empty() {
         return false;
     }
     if body.size() != tier.sizes[patch as usize] {
@@ -257,7 +260,7 @@ fn holds_four(rt: &impl process::Abort, tier: &Tier) {
         Turn::Commit(2),
         Turn::Commit(3),
     ];
-    assert_eq!(rt; tier.journal(), journal.as_slice());
+    assert_eq!(rt; tier.journal(), Some(journal.as_slice()));
 }
 
 /// Two patches are pinned, and then two come at once.
@@ -333,7 +336,7 @@ fn has_told_all(rt: &impl process::Abort, tier: &mut Tier) -> Result<(), Fail> {
         Turn::Lost(4),
         Turn::Evict(2),
     ];
-    assert_eq!(rt; tier.journal(), journal.as_slice());
+    assert_eq!(rt; tier.journal(), Some(journal.as_slice()));
     Ok(())
 }
 
@@ -354,6 +357,17 @@ fn takes_the_highest_and_gives_up_the_lowest(rt: HostRuntime) -> Result<(), Fail
     };
     let mut tier = Tier::new(alloc, &index, 120)?;
     is_told_all(&rt, &mut tier, third)
+}
+
+/// A tier that doesn't keep its journal does the same, and tells none.
+#[test]
+fn a_silent_tier(rt: HostRuntime) -> Result<(), Fail> {
+    let alloc = rt.alloc();
+    let (index, _) = strip_bodies(alloc)?;
+    let mut tier = Tier::silent(alloc, &index, 240, 2)?;
+    reserve(&mut tier, 2)?;
+    assert_eq!(rt; (tier.load(), tier.journal()), (60, None));
+    Ok(())
 }
 
 #[test]

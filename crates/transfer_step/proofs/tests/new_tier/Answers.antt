@@ -12,4 +12,4 @@ has_sizes index budget width (Ok tier) is = sym (ap (λ (s : TierState). s.sizes
 has_sizes index budget width (Err e) is = tt
 
 pub returns : goal.returns
-returns c = has_sizes c.args.index.now c.args.budget c.args.width c.with_width.result c.with_width.ensures
+returns c = has_sizes c.args.index.now c.args.budget c.args.width c.with_width.result c.with_width.ensures.state

@@ -64,14 +64,14 @@ set-requires c =
 is_aborted : (c : goal.After-push_reserved) → record (state_of c.self.inside) {
   aside = c.put_aside.new.aside;
   coming = c.take_out.new.coming.items;
-  journal = c.push_reserved.new.self.items;
+  journal = c.push_reserved.new.self.entries;
 } ≡ aborted c.args.self.now.state c.in-Some.patch c.args.why
 is_aborted c =
     let p = c.in-Some.patch in
-    aborted_is (state_of c.self.inside) p c.args.why c.put_aside.new.aside c.take_out.new.coming.items c.push_reserved.new.self.items
+    aborted_is (state_of c.self.inside) p c.args.why c.put_aside.new.aside c.take_out.new.coming.items c.push_reserved.new.self.entries
     c.put_aside.ensures.after
     c.take_out.ensures.items
-    (c.push_reserved.ensures.items ∙ ap (λ entry. c.self.inside.journal.items ++ entry ∷ []) c.entry_of.ensures)
+    (c.push_reserved.ensures.entries ∙ ap (λ entry. c.self.inside.journal.entries ++ entry ∷ []) c.entry_of.ensures)
     ∙ ap (λ (v : TierSeen). aborted v.state p c.args.why) c.self.view_is
 
 is_told : (c : goal.After-push_reserved) → c.rank_of_missing-rank.result ≡ missing_at (aborted c.args.self.now.state c.in-Some.patch c.args.why) c.in-Some.patch

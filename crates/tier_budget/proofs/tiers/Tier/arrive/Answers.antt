@@ -24,10 +24,10 @@ index_mut-requires c =
 pub returns-clause-state : goal.returns-clause-state
 returns-clause-state c =
     let patch : c.patch-patch.result ≡ c.args.body.value.patch = c.patch-patch.ensures.patch ∙ ap (λ (b : SeenBody). b.patch) c.deref.ensures in
-    arrived_is (state_of c.self.inside) c.patch-patch.result c.args.body.value _ (with_items c.self.inside.coming c.give_body.new.coming).items c.push_reserved.new.self.items
+    arrived_is (state_of c.self.inside) c.patch-patch.result c.args.body.value _ (with_items c.self.inside.coming c.give_body.new.coming).items c.push_reserved.new.self.entries
     (body_written c.self.inside.came.items c.patch-patch.result (Some c.args.body))
     (written c.self.inside.coming c.deref_mut.result.now c.give_body.new.coming c.deref_mut.ensures.value c.give_body.auto.coming ∙ c.give_body.ensures ∙ ap (with_body c.patch-patch.result) c.deref_mut.ensures.value)
-    c.push_reserved.ensures.items
+    c.push_reserved.ensures.entries
     ∙ ap (λ (v : TierSeen). arrived v.state c.patch-patch.result c.args.body.value) c.self.view_is
     ∙ ap (λ p. arrived c.args.self.now.state p c.args.body.value) patch
 

@@ -64,7 +64,7 @@ is_committed : (c : goal.After-push_reserved) → record (state_of c.self.inside
   held = bodies_in (slice_set c.self.inside.held.items c.in-Some.patch c.take-body.result);
   came = bodies_in (slice_set c.self.inside.came.items c.in-Some.patch c.take-body.new.self);
   coming = c.take_out.new.coming.items;
-  journal = c.push_reserved.new.self.items;
+  journal = c.push_reserved.new.self.entries;
 } ≡ committed c.args.self.now.state c.in-Some.patch
 is_committed c =
     let p = c.in-Some.patch in
@@ -72,10 +72,10 @@ is_committed c =
     let within = comes_within (state_of c.self.inside) p c.self.invariant.sound.tier (first_comes c.self.inside.coming.items p first) in
     let there = has_item c.self.inside.came.items _ p c.self.invariant.sound.tier.sized.came within in
     let read = body_read c.self.inside.came.items p c.take-body.result there (c.take-body.ensures.value ∙ c.index_mut.ensures.value ∙ ap (slice_index_or c.self.inside.came.items p) (sym c.take-body.ensures.value)) in
-    committed_is (state_of c.self.inside) p _ _ c.take_out.new.coming.items c.push_reserved.new.self.items
+    committed_is (state_of c.self.inside) p _ _ c.take_out.new.coming.items c.push_reserved.new.self.entries
     (body_written c.self.inside.held.items p c.take-body.result ∙ ap (slice_set (bodies_in c.self.inside.held.items) p) read)
     (body_written c.self.inside.came.items p c.take-body.new.self ∙ ap (λ o. slice_set (bodies_in c.self.inside.came.items) p (option_map arc_value o)) c.take-body.ensures.after)
-    c.take_out.ensures.items c.push_reserved.ensures.items
+    c.take_out.ensures.items c.push_reserved.ensures.entries
     ∙ ap (λ (v : TierSeen). committed v.state p) c.self.view_is
 
 first_of_old : (c : goal.After-push_reserved) → first_coming c.args.self.now.state.coming ≡ Some c.in-Some.patch

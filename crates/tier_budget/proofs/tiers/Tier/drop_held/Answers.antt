@@ -40,7 +40,7 @@ overflow_sub-self-2 c =
 
 pub returns-clause-state : goal.returns-clause-state
 returns-clause-state c =
-    dropped_is (state_of c.self.inside) c.args.patch _ c.push_reserved.new.self.items (body_written c.self.inside.held.items c.args.patch None) c.push_reserved.ensures.items
+    dropped_is (state_of c.self.inside) c.args.patch _ c.push_reserved.new.self.entries (body_written c.self.inside.held.items c.args.patch None) c.push_reserved.ensures.entries
     ∙ ap (λ (v : TierSeen). dropped v.state c.args.patch) c.self.view_is
 
 pub invariant_of-self : goal.invariant_of-self

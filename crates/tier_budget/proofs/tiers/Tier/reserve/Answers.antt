@@ -12,7 +12,7 @@ use Rattle.tier_budget.proofs.tiers.Tier.reserve.Goals as goal
 
 pub returns-clause-state : goal.returns-clause-state
 returns-clause-state c =
-    reserved_is (state_of c.self.inside) c.args.patch c.push_reserved.new.self.items c.push_reserved-2.new.self.items c.push_reserved.ensures.items c.push_reserved-2.ensures.items
+    reserved_is (state_of c.self.inside) c.args.patch c.push_reserved.new.self.items c.push_reserved-2.new.self.entries c.push_reserved.ensures.items c.push_reserved-2.ensures.entries
     ∙ ap (λ (v : TierSeen). reserved v.state c.args.patch) c.self.view_is
 
 pub invariant_of-self : goal.invariant_of-self
