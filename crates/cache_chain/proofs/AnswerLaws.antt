@@ -1,8 +1,7 @@
 -- What is known of a turn's answer by where the tier stands.
-use Rattle.std.proofs.Common.{◌≡◌, ℕ, ◌≤◌, false, [], Option, Some, None, Result, Ok, Err, IfOk, refl, arith}
+use Rattle.std.proofs.Common.{◌≡◌, ℕ, ◌≤◌, false, [], Option, Some, None, Result, IfOk, refl, arith}
 use Rattle.file_model.specs.declared.faults.FileFault.{FileFault}
 use Rattle.tier_model.specs.declared.turns.Turn.{Turn}
-use Rattle.tier_model.specs.declared.turns.Turn.TheVariants.{Reserve, Evict, Kept, Got, Lost, Fault, Changed, Commit, Idle}
 use Rattle.tier_model.specs.Tiers.{TierState}
 use Rattle.tier_model.specs.Answers.{IfFault, IfChanged, IfKept}
 use Rattle.tier_model.specs.Choices.{Told}
@@ -10,6 +9,7 @@ use Rattle.tier_model.specs.Turns.{Outcome, Board, begun, paired, outcome_in, Is
 use Rattle.tier_model.specs.Follows.{Follows, Reserves, Gets, Loses, Fails, Breaks, Commits, Evicts, Keeps, Rests}
 use Rattle.tier_model.specs.TurnLaws.{turn_follows}
 use Rattle.transfer_step.specs.TurnWords.{misses_in}
+use Rattle.cache_chain.specs.AnswerMaps.{result_fault_more, result_changed_more}
 use Rattle.cache_chain.specs.WordTurns.{NeverFails}
 
 -- ---- below the top each eviction goes through
@@ -33,36 +33,6 @@ pub lower_misses_none : (board : Board) (told : Told) (s : TierState) (answer : 
 lower_misses_none board told s answer after lower is = (never_keeps (λ p uses. Unit {0}) told (begun board s) (outcome_in answer after) (paired answer after) lower (turn_follows board told s answer after is)).1
 
 -- ---- a tier over another never fails
-
-fault_more : (P Q : ℕ → Type 0) → ((p : ℕ) → P p → Q p) → (answer : Turn) → IfFault answer P → IfFault answer Q
-fault_more P Q more (Fault p) is = more p is
-fault_more P Q more (Reserve p) is = tt
-fault_more P Q more (Evict p) is = tt
-fault_more P Q more (Kept p uses) is = tt
-fault_more P Q more (Got p) is = tt
-fault_more P Q more (Lost p) is = tt
-fault_more P Q more (Changed p fault) is = tt
-fault_more P Q more (Commit p) is = tt
-fault_more P Q more Idle is = tt
-
-changed_more : (P Q : ℕ → FileFault → Type 0) → ((p : ℕ) (fault : FileFault) → P p fault → Q p fault) → (answer : Turn) → IfChanged answer P → IfChanged answer Q
-changed_more P Q more (Changed p fault) is = more p fault is
-changed_more P Q more (Reserve p) is = tt
-changed_more P Q more (Evict p) is = tt
-changed_more P Q more (Kept p uses) is = tt
-changed_more P Q more (Got p) is = tt
-changed_more P Q more (Lost p) is = tt
-changed_more P Q more (Fault p) is = tt
-changed_more P Q more (Commit p) is = tt
-changed_more P Q more Idle is = tt
-
-pub result_fault_more : {E : Type 0} (P Q : ℕ → Type 0) → ((p : ℕ) → P p → Q p) → (result : Result Turn E) → IfOk result (λ answer. IfFault answer P) → IfOk result (λ answer. IfFault answer Q)
-result_fault_more P Q more (Ok answer) is = fault_more P Q more answer is
-result_fault_more P Q more (Err e) is = tt
-
-pub result_changed_more : {E : Type 0} (P Q : ℕ → FileFault → Type 0) → ((p : ℕ) (fault : FileFault) → P p fault → Q p fault) → (result : Result Turn E) → IfOk result (λ answer. IfChanged answer P) → IfOk result (λ answer. IfChanged answer Q)
-result_changed_more P Q more (Ok answer) is = changed_more P Q more answer is
-result_changed_more P Q more (Err e) is = tt
 
 -- where no tier is next, the cause holds; where one is, the answer never comes
 pub fault_at_lowest : {E : Type 0} (cause : Type 0) (result : Result Turn E) (next : Option TierState) → (next ≡ None → IfOk result (λ answer. IfFault answer (λ _. cause))) → ((t : TierState) → next ≡ Some t → NeverFails result) → IfOk result (λ answer. IfFault answer (λ _. (next ≡ None) × cause))

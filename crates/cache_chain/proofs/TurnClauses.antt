@@ -20,7 +20,8 @@ use Rattle.cache_chain.specs.Turning.{chain_of, HaveSizes, AtLowest, GivesBelow,
 use Rattle.cache_chain.specs.WordTurns.{WordsSeen, uses_of, TurnsWords, TurnsStore, NeverFails}
 use Rattle.cache_chain.specs.TurnRuns.{Setting, Moment, KeepsSets, MakesTurn, RefusesTurn}
 use Rattle.cache_chain.specs.SettleRuns.{MayTurn}
-use Rattle.cache_chain.specs.ChainLaws.{got_more, turns_at_top, turns_at_lower, tiers_after, wishes_after, turns_by_file, takes_wishes, tied_top, tied_lower}
+use Rattle.cache_chain.specs.AnswerMaps.{got_more}
+use Rattle.cache_chain.specs.ChainLaws.{turns_at_top, turns_at_lower, tiers_after, wishes_after, turns_by_file, takes_wishes, tied_top, tied_lower}
 use Rattle.cache_chain.proofs.AnswerLaws.{lower_keeps_none, lower_misses_none, fault_at_lowest, changed_at_lowest, later_anywhere}
 
 -- the top tier's turn, where the keeper has words

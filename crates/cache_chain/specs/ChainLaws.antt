@@ -5,7 +5,6 @@ use Rattle.std.proofs.lemmas.Bool.{cases_eq}
 use Rattle.std.proofs.lemmas.List.{length-set}
 use Rattle.file_model.specs.Lists.{IndexLists, SeenBody}
 use Rattle.tier_model.specs.declared.turns.Turn.{Turn}
-use Rattle.tier_model.specs.declared.turns.Turn.TheVariants.{Reserve, Evict, Kept, Got, Lost, Fault, Changed, Commit, Idle}
 use Rattle.tier_model.specs.Places.{is_marked}
 use Rattle.tier_model.specs.Tiers.{TierState, body_at, base_marks, IsTier}
 use Rattle.tier_model.specs.Answers.{IfGot}
@@ -19,6 +18,7 @@ use Rattle.tier_model.specs.Ties.{epochs_after, IsTied}
 use Rattle.tier_model.specs.ChainLaws.{IsTopTied}
 use Rattle.transfer_step.specs.TurnWords.{told_of}
 use Rattle.cache_chain.specs.ChainStates.{HasBodies, IsFileBody, IsTierOf, AreTiersOf}
+use Rattle.cache_chain.specs.AnswerMaps.{result_got_more}
 use Rattle.cache_chain.specs.Turning.{chain_of, AllKeepWishes, GivesBelow, TurnsTier, TakesWishes}
 use Rattle.cache_chain.specs.BodyLaws.{bodies-begun, bodies-turned}
 use Rattle.cache_chain.specs.LowerTurns.{lower_turn}
@@ -98,21 +98,6 @@ takes_wishes board told gives k (Ok answer) a b turn = tt
 takes_wishes board told gives k (Err e) a b turn = record { before = turn.before; was = turn.was; is = turn.is ∙ ap (slice_set a k) turn.turns.none }
 
 -- ---- what a turn gives
-
-pub got_more : (P Q : ℕ → Type 0) → ((p : ℕ) → P p → Q p) → (answer : Turn) → IfGot answer P → IfGot answer Q
-got_more P Q more (Got p) got = more p got
-got_more P Q more (Reserve p) got = tt
-got_more P Q more (Evict p) got = tt
-got_more P Q more (Kept p uses) got = tt
-got_more P Q more (Lost p) got = tt
-got_more P Q more (Fault p) got = tt
-got_more P Q more (Changed p fault) got = tt
-got_more P Q more (Commit p) got = tt
-got_more P Q more Idle got = tt
-
-pub result_got_more : {E : Type 0} (P Q : ℕ → Type 0) → ((p : ℕ) → P p → Q p) → (result : Result Turn E) → IfOk result (λ answer. IfGot answer P) → IfOk result (λ answer. IfGot answer Q)
-result_got_more P Q more (Ok answer) got = got_more P Q more answer got
-result_got_more P Q more (Err e) got = tt
 
 -- the tier below gives bodies of the file, and so does the store
 file_given : (index : IndexLists) (bytes : Option (List ℕ)) (gives : ℕ → SeenBody → Type 0) (a : List TierState) (k p : ℕ) (body : SeenBody) → AreTiersOf index bytes a → (gives p body → IsFileBody index bytes p body) → GivesBelow gives a k p body → IsFileBody index bytes p body

@@ -3,6 +3,7 @@ pub mod Turning
 pub mod WordTurns
 pub mod LowerTurns
 pub mod BodyLaws
+pub mod AnswerMaps
 pub mod ChainLaws
 pub mod TurnRuns
 pub mod RunLaws

@@ -1,7 +1,8 @@
 -- Why a chain doesn't start, and what that says of the budget and the store.
-use Rattle.std.specs.Prelude.{◌≡◌, ℕ, ◌<◌, List}
+use Rattle.std.specs.Prelude.{◌≡◌, ℕ, ◌<◌, ◌≤◌, List, Option}
+use Rattle.view_outside.specs.Files.{Named}
 use Rattle.view_outside.specs.Faults.{Rose}
-use Rattle.view_outside.specs.Taken.{RisesBelow}
+use Rattle.view_outside.specs.Taken.{RisesBelow, RisesAtMost}
 use Rattle.file_model.specs.Lists.{IndexLists}
 use Rattle.mesh_model.specs.Graph.{outgoing}
 use Rattle.mesh_model.specs.Meshes.{MeshLists}
@@ -49,3 +50,12 @@ HasReason need faults later taken now ReadFault = Rose faults later × RisesBelo
 HasReason need faults later taken now (Budget n g) = (later ≡ faults) × (now ≡ taken)
 HasReason need faults later taken now (Changed patch fault) = Unit {0}
 HasReason need faults later taken now Memory = Unit {0}
+
+-- the refusal has its reason in a state that the store came to. Only what was asked of the store shows such a state: a
+-- call that knows nothing of the store but its trait has no other way to one in which it failed
+pub record HasCauseIn {S : Type 0} (files : S → Option (List Named)) (faults taken : S → ℕ) (need : ℕ) (store : S) (refusal : StartRefusal) : Type 0 where
+  pub left : S
+  pub kept : files left ≡ files store
+  pub later : faults store ≤ faults left
+  pub most : RisesAtMost (taken store) (taken left) need
+  pub reason : HasReason need (faults store) (faults left) (taken store) (taken left) refusal

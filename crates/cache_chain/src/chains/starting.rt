@@ -7,7 +7,7 @@ ghost use Rattle.mesh_model.specs.Graph.{outgoing};
 ghost use Rattle.tier_model.specs.Tiers.{IsWidth};
 ghost use Rattle.cache_chain.specs.ChainStates.{IsChain};
 ghost use Rattle.cache_chain.specs.Opening.{IsOpened};
-ghost use Rattle.cache_chain.specs.Refusals.{base_size, NamesBudget, NamesChange, NamesBodyFault};
+ghost use Rattle.cache_chain.specs.Refusals.{base_size, NamesBudget, NamesChange, NamesBodyFault, HasCauseIn};
 ghost use Rattle.cache_chain.specs.declared.refusals.StartRefusal.TheVariants.{Budget};
 
 use super::TierChain;
@@ -47,6 +47,8 @@ impl<'a, S: Store> TierChain<'a, S> {
             IfErr result
             (NamesChange mesh.now.lists.index bytes
             (outgoing mesh.now.lists.index.fields mesh.now.lists.root))) }
+        ensures reason { IfErr result
+            (HasCauseIn S.files S.faults S.taken (base_size mesh.now.lists) store.old) }
         ensures taken { IfOk result
             (λ chain.
             S.taken chain.store
@@ -62,9 +64,9 @@ impl<'a, S: Store> TierChain<'a, S> {
 
     /// The same, where each tier takes up to `width` patches, 1 to 8, at a time.
     ///
-    /// `Budget` comes exactly where the bodies of the base patches have more bytes than the first budget. What a
-    /// refusal leaves of the store, and that `ReadFault` has a cause, is said by `open_tiers`, which gives the
-    /// tiers alone.
+    /// `Budget` comes exactly where the bodies of the base patches have more bytes than the first budget, and
+    /// `ReadFault` only where the store came to a state in which its faults rose. That a refusal leaves the
+    /// store in that state is said by `open_tiers`, which gives the tiers alone.
     pub fn start_wide(
         alloc: Global,
         mesh: &'a Mesh,
@@ -93,6 +95,8 @@ impl<'a, S: Store> TierChain<'a, S> {
             IfErr result
             (NamesChange mesh.now.lists.index bytes
             (outgoing mesh.now.lists.index.fields mesh.now.lists.root))) }
+        ensures reason { IfErr result
+            (HasCauseIn S.files S.faults S.taken (base_size mesh.now.lists) store.old) }
         ensures taken { IfOk result
             (λ chain.
             S.taken chain.store

@@ -6,8 +6,7 @@ use Rattle.tier_model.specs.Tiers.{body_at}
 use Rattle.transfer_step.specs.Supplies.{StorePlace, GivesFile, FindsInFile}
 use Rattle.cache_chain.specs.ChainStates.{IsFileBody, FindsChanged}
 use Rattle.cache_chain.specs.WordTurns.{TurnsStore}
-use Rattle.cache_chain.specs.ChainLaws.{result_got_more}
-use Rattle.cache_chain.proofs.AnswerLaws.{result_changed_more}
+use Rattle.cache_chain.specs.AnswerMaps.{result_got_more, result_changed_more}
 use Rattle.cache_chain.proofs.turning.turn_over_file.Goals as goal
 
 pub returns-clause-turns : goal.returns-clause-turns

@@ -1,7 +1,7 @@
 -- The turn's clauses, put together. What lies below is a tier, whose count of faults never rises.
 use Rattle.std.proofs.Common.{arith}
 use Rattle.view_outside.specs.Faults.{Rose}
-use Rattle.cache_chain.proofs.AnswerLaws.{result_fault_more}
+use Rattle.cache_chain.specs.AnswerMaps.{result_fault_more}
 use Rattle.cache_chain.proofs.turning.turn_over_tier.Goals as goal
 
 pub returns-clause-turns : goal.returns-clause-turns
