@@ -2,6 +2,7 @@ pub mod ToldBodies
 pub mod TurnStates
 pub mod Stops
 pub mod SettleStates
+pub mod OwnStops
 pub mod Machines
 pub mod MachineLaws
 pub mod LineTells

@@ -20,7 +20,7 @@ use Rattle.session_seats.specs.Seats.{at_seat}
 use Rattle.view_machine.specs.declared.refusals.RunRefusal.{RunRefusal}
 use Rattle.view_machine.specs.declared.refusals.RunRefusal.TheVariants.{Memory, WriteFault}
 use Rattle.view_machine.specs.Machines.{MachineSeen}
-use Rattle.view_machine.specs.Stops.{StopsAt}
+use Rattle.view_machine.specs.OwnStops.{StopsIn}
 use Rattle.view_machine.specs.LineCounts.{HasNoFailure, HasNoChange, TellsBodies}
 
 -- ---- how far the sessions have come
@@ -67,9 +67,9 @@ pub record PrintsLine (w : World) (order : Order) (a b : State) (faults_before f
   pub taken : HasNoFailure (turns_in did) → taken_now ≡ taken_after taken_before (bytes_from_store w did)
   pub unchanged : TellsBodies w → HasNoChange (turns_in did)
 
--- there was no memory: the line stopped on its way, and nothing of it was written
-pub record StopsMemory (w : World) (a b : State) (before after : Option (List ℕ)) : Type 0 where
-  pub stops : StopsAt w a b
+-- there was no memory: the line stopped at a beginning of its own steps, and nothing of it was written
+pub record StopsMemory (w : World) (order : Order) (a b : State) (before after : Option (List ℕ)) : Type 0 where
+  pub stops : StopsIn w a order b
   pub nothing : after ≡ before
 
 -- the sink failed: the line did this, with the store's faults counted, and a proper prefix of its text was written
@@ -84,5 +84,5 @@ pub record StopsWriting (w : World) (order : Order) (a b : State) (faults_before
   pub rose : Rose sink_faults sink_faults_now
 
 abbrev pub StopsLine : RunRefusal → World → Order → State → State → ℕ → ℕ → ℕ → ℕ → Option (List ℕ) → Option (List ℕ) → Type 0
-StopsLine Memory w order a b faults_before faults_now sink_faults sink_faults_now before after = StopsMemory w a b before after
+StopsLine Memory w order a b faults_before faults_now sink_faults sink_faults_now before after = StopsMemory w order a b before after
 StopsLine WriteFault w order a b faults_before faults_now sink_faults sink_faults_now before after = StopsWriting w order a b faults_before faults_now sink_faults sink_faults_now before after

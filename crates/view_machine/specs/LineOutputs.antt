@@ -19,14 +19,13 @@ use Rattle.wish_board.specs.Boards.{BoardSeen}
 use Rattle.cache_chain.specs.ChainStates.{ChainSeen}
 use Rattle.run_model.specs.Worlds.{World}
 use Rattle.run_model.specs.States.{State}
-use Rattle.run_model.specs.Events.{Stays as NoEvent}
 use Rattle.run_model.specs.Lines.{Did, Does, DoesOpen, DoesView, DoesStep, DoesFrame, DoesFree, DoesClose, DoesTurn, DoesSettle, DoesStatus}
 use Rattle.run_model.specs.RunTexts.{turns_in}
 use Rattle.session_seats.specs.Seats.{SeatsSeen, SessionTold, session_told, told_at, just_opened, told_view, one_frame_more, IsOpen}
 use Rattle.view_machine.specs.declared.refusals.RunRefusal.{RunRefusal}
 use Rattle.view_machine.specs.declared.refusals.RunRefusal.TheVariants.{Memory, WriteFault}
 use Rattle.view_machine.specs.Machines.{MachineSeen, world_of, run_state, KeepsPlace}
-use Rattle.view_machine.specs.Stops.{StopsAt, AtEvents}
+use Rattle.view_machine.specs.OwnStops.{StopsIn, AtStart}
 use Rattle.view_machine.specs.LineTells.{DoesLine}
 use Rattle.view_machine.specs.LineCounts.{CountsTurns, DoesCounted, counts_none}
 use Rattle.view_machine.specs.LineEnds.{stages_in, history_of, frames_at, FramesRise, PrintsLine, StopsWriting}
@@ -45,7 +44,7 @@ pub record LineKeeps {S : Type 0} (old new : MachineSeen S) (files_old files_new
 -- what is given of a line that ended with this result: its text with the store's counts, or where it stopped
 pub record LineGives {S T E : Type 0} (order : Order) (old new : MachineSeen S) (files files_now : Option (List Named)) (faults faults_now taken taken_now : ℕ) (result : Result T E) (text : T → List ℕ) : Type 0 where
   pub line : IfOk result (λ x. DoesCounted (world_of old) order (run_state old) (run_state new) (text x) faults faults_now taken taken_now)
-  pub none : OnErr result (StopsAt (world_of old) (run_state old) (run_state new))
+  pub none : OnErr result (StopsIn (world_of old) (run_state old) order (run_state new))
   pub refused : (session : ℕ) (view : ViewSeen) → order ≡ orders.View session view → OnErr result (new ≡ old)
   pub history : OnOk result (history_of new ≡ history_after (history_of old) order)
   pub keeps : LineKeeps old new files files_now faults faults_now
@@ -108,8 +107,8 @@ module _ {S : Type 0} (old new : MachineSeen S) where
   history_same : new.seats ≡ old.seats → history_of new ≡ history_of old
   history_same same = ap (λ (seats : SeatsSeen). stages_in seats.sessions) same
 
-  stops_there : new ≡ old → StopsAt (world_of old) (run_state old) (run_state new)
-  stops_there same = subst (λ (m : MachineSeen S). StopsAt (world_of old) (run_state old) (run_state m)) (sym same) (AtEvents NoEvent)
+  stops_there : (order : Order) → new ≡ old → StopsIn (world_of old) (run_state old) order (run_state new)
+  stops_there order same = subst (λ (m : MachineSeen S). StopsIn (world_of old) (run_state old) order (run_state m)) (sym same) AtStart
 
   many_tiers : KeepsPlace old new → length new.chain.tiers ≡ length old.chain.tiers
   many_tiers place =
@@ -127,8 +126,8 @@ module _ {S T E : Type 0} (files : S → Option (List Named)) (faults taken : S 
   abbrev Line : Order → Type 0
   Line order = IfOk result (λ x. DoesLine (world_of old) order (run_state old) (run_state new) (text x))
 
-  abbrev Stopped : Type 0
-  Stopped = OnErr result (StopsAt (world_of old) (run_state old) (run_state new))
+  abbrev Stopped : Order → Type 0
+  Stopped order = OnErr result (StopsIn (world_of old) (run_state old) order (run_state new))
 
   abbrev Sets : ℕ → Option SessionTold → Type 0
   Sets i value = SetAt (told_at old.seats.sessions) i value (told_at new.seats.sessions)
@@ -160,7 +159,7 @@ module _ {S T E : Type 0} (files : S → Option (List Named)) (faults taken : S 
   unfolding history_after
   open_gives i line none told place board chain = record {
     line = seat_line (orders.Open i) refl chain line;
-    none = on_err_weaker result (stops_there old new) none;
+    none = on_err_weaker result (stops_there old new (orders.Open i)) none;
     refused = λ session view is. absurd (cc);
     history = on_ok_weaker result (stages_set old.seats.sessions new.seats.sessions i (Some just_opened)) told;
     keeps =
@@ -180,7 +179,7 @@ module _ {S T E : Type 0} (files : S → Option (List Named)) (faults taken : S 
       let most = frames_open old.seats.sessions i s there.at in
       record {
         line = seat_line (orders.View i view) refl chain line;
-        none = on_err_weaker result (stops_there old new) none;
+        none = on_err_weaker result (stops_there old new (orders.View i view)) none;
         refused = λ session other is. none;
         history = on_ok_weaker result (stages_set old.seats.sessions new.seats.sessions i value) sets;
         keeps =
@@ -188,7 +187,7 @@ module _ {S T E : Type 0} (files : S → Option (List Named)) (faults taken : S 
             (either_way result (λ given. rises i value given (omega (arith, most))) (λ same. frames_same old new (ap (λ (m : MachineSeen S). m.seats) same)) sets none);
       }
 
-  pub step_gives : (i : ℕ) → Line (orders.Step i) → Stopped → Stays (told_at old.seats.sessions) (told_at new.seats.sessions) → KeepsPlace old new → new.board ≡ old.board → new.chain ≡ old.chain → Gives (orders.Step i)
+  pub step_gives : (i : ℕ) → Line (orders.Step i) → Stopped (orders.Step i) → Stays (told_at old.seats.sessions) (told_at new.seats.sessions) → KeepsPlace old new → new.board ≡ old.board → new.chain ≡ old.chain → Gives (orders.Step i)
   unfolding history_after
   step_gives i line none stays place board chain = record {
     line = seat_line (orders.Step i) refl chain line;
@@ -198,7 +197,7 @@ module _ {S T E : Type 0} (files : S → Option (List Named)) (faults taken : S 
     keeps = seat_keeps place chain (version_same old new board) (rises_still stays);
   }
 
-  pub frame_gives : (i : ℕ) → IsOpen old.seats.sessions i → Line (orders.Frame i) → Stopped
+  pub frame_gives : (i : ℕ) → IsOpen old.seats.sessions i → Line (orders.Frame i) → Stopped (orders.Frame i)
       → OnOk result ((told : SessionTold) → told_at old.seats.sessions i ≡ Some told → Sets i (Some (one_frame_more told)))
       → OnErr result (Stays (told_at old.seats.sessions) (told_at new.seats.sessions)) → KeepsPlace old new → new.board ≡ old.board → new.chain ≡ old.chain → Gives (orders.Frame i)
   unfolding history_after
@@ -216,7 +215,7 @@ module _ {S T E : Type 0} (files : S → Option (List Named)) (faults taken : S 
         keeps = seat_keeps place chain (version_same old new board) (either_way result (λ given. rises i value given (omega (arith, most))) rises_still sets stays);
       }
 
-  pub free_gives : (i : ℕ) → Line (orders.Free i) → Stopped → Stays (told_at old.seats.sessions) (told_at new.seats.sessions) → KeepsPlace old new → new.board ≡ old.board → new.chain ≡ old.chain → Gives (orders.Free i)
+  pub free_gives : (i : ℕ) → Line (orders.Free i) → Stopped (orders.Free i) → Stays (told_at old.seats.sessions) (told_at new.seats.sessions) → KeepsPlace old new → new.board ≡ old.board → new.chain ≡ old.chain → Gives (orders.Free i)
   unfolding history_after
   free_gives i line none stays place board chain = record {
     line = seat_line (orders.Free i) refl chain line;
@@ -226,7 +225,7 @@ module _ {S T E : Type 0} (files : S → Option (List Named)) (faults taken : S 
     keeps = seat_keeps place chain (version_same old new board) (rises_still stays);
   }
 
-  pub close_gives : (i : ℕ) → Line (orders.Close i) → Stopped → Sets i None → new.board.version ≤ old.board.version + 1 → KeepsPlace old new → new.chain ≡ old.chain → Gives (orders.Close i)
+  pub close_gives : (i : ℕ) → Line (orders.Close i) → Stopped (orders.Close i) → Sets i None → new.board.version ≤ old.board.version + 1 → KeepsPlace old new → new.chain ≡ old.chain → Gives (orders.Close i)
   unfolding history_after
   close_gives i line none sets version place chain = record {
     line = seat_line (orders.Close i) refl chain line;
@@ -249,7 +248,7 @@ module _ {S T E : Type 0} (files : S → Option (List Named)) (faults taken : S 
     tiers = many_tiers old new place;
   }
 
-  pub turn_gives : (k : ℕ) → Counted (orders.Turn k) → Stopped → KeepsPlace old new → new.seats ≡ old.seats → new.board ≡ old.board → files new.chain.store ≡ files old.chain.store → faults old.chain.store ≤ faults new.chain.store → Gives (orders.Turn k)
+  pub turn_gives : (k : ℕ) → Counted (orders.Turn k) → Stopped (orders.Turn k) → KeepsPlace old new → new.seats ≡ old.seats → new.board ≡ old.board → files new.chain.store ≡ files old.chain.store → faults old.chain.store ≤ faults new.chain.store → Gives (orders.Turn k)
   unfolding history_after
   turn_gives k line none place seats board same later = record {
     line = line;
@@ -259,7 +258,7 @@ module _ {S T E : Type 0} (files : S → Option (List Named)) (faults taken : S 
     keeps = tier_keeps place seats board same later;
   }
 
-  pub settle_gives : Counted orders.Settle → Stopped → KeepsPlace old new → new.seats ≡ old.seats → new.board ≡ old.board → files new.chain.store ≡ files old.chain.store → faults old.chain.store ≤ faults new.chain.store → Gives orders.Settle
+  pub settle_gives : Counted orders.Settle → Stopped orders.Settle → KeepsPlace old new → new.seats ≡ old.seats → new.board ≡ old.board → files new.chain.store ≡ files old.chain.store → faults old.chain.store ≤ faults new.chain.store → Gives orders.Settle
   unfolding history_after
   settle_gives line none place seats board same later = record {
     line = line;
@@ -274,7 +273,7 @@ pub status_gives : {S T E : Type 0} (files : S → Option (List Named)) (faults 
 unfolding history_after
 status_gives files faults taken m result text line = record {
   line = seat_line files faults taken m m result text orders.Status refl refl line;
-  none = on_err result (AtEvents NoEvent);
+  none = on_err result AtStart;
   refused = λ session view is. absurd (cc);
   history = on_ok result refl;
   keeps = tier_keeps files faults taken m m result text (record { world = refl; mesh = refl; file = refl; bytes = refl; lender = refl }) refl refl refl (omega arith);

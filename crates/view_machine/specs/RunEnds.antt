@@ -14,7 +14,7 @@ use Rattle.run_model.specs.RunTexts.{turns_in, faults_of, bytes_from_store}
 use Rattle.view_machine.specs.declared.refusals.RunRefusal.{RunRefusal}
 use Rattle.view_machine.specs.declared.refusals.RunRefusal.TheVariants.{Memory, WriteFault}
 use Rattle.view_machine.specs.LineCounts.{HasNoFailure, HasNoChange, TellsBodies}
-use Rattle.view_machine.specs.Stops.{StopsAt}
+use Rattle.view_machine.specs.OwnStops.{StopsIn}
 
 -- in no line a fetch failed
 abbrev pub HaveNoFailure : List Did → Type 0
@@ -36,7 +36,8 @@ pub record RanLines (w : World) (orders : List Order) (a b : State) (faults_befo
   pub taken : HaveNoFailure dids → taken_now ≡ taken_after taken_before (sum_by (bytes_from_store w) dids)
   pub unchanged : TellsBodies w → HaveNoChange dids
 
--- there was no memory: a line stopped on its way. Those before it ran, and exactly their text was written
+-- there was no memory: a line stopped at a beginning of its own steps. Those before it ran, and exactly their text was
+-- written
 pub record StopsRunMemory (w : World) (orders : List Order) (a b : State) (faults_before faults_now : ℕ) (before after : Option (List ℕ)) : Type 0 where
   pub done : List Order
   pub stopped : Order
@@ -50,7 +51,7 @@ pub record StopsRunMemory (w : World) (orders : List Order) (a b : State) (fault
   pub written : after ≡ appended before text
   pub faults : RoseBy (sum_by (faults_of w) dids) faults_before faults_now
   pub unchanged : TellsBodies w → HaveNoChange dids
-  pub stops : StopsAt w reached b
+  pub stops : StopsIn w reached stopped b
 
 -- the sink failed in the text of a line: the lines up to and with it ran, and a proper prefix of their text was written
 pub record StopsRunWriting (w : World) (orders : List Order) (a b : State) (faults_before faults_now sink_faults sink_faults_now : ℕ) (before after : Option (List ℕ)) : Type 0 where

@@ -160,9 +160,9 @@ module _ {S : Type 0} (mode : Mode) (old mid : MachineSeen S) (done : List Line)
         }
 
   -- the run stops in the next line
-  pub stops_memory : (new : MachineSeen S) (after : Option (List ℕ)) (h : ℕ) → g ≤ h → StopsMemory (world_of mid) (run_state mid) (run_state new) between after → StopsRunMemory (world_of old) (orders_of (done ++ line ∷ rest)) (run_state old) (run_state new) f h before after
+  pub stops_memory : (new : MachineSeen S) (after : Option (List ℕ)) (h : ℕ) → g ≤ h → StopsMemory (world_of mid) line.order (run_state mid) (run_state new) between after → StopsRunMemory (world_of old) (orders_of (done ++ line ∷ rest)) (run_state old) (run_state new) f h before after
   stops_memory new after h later stop =
-      let here : StopsMemory (world_of old) (run_state mid) (run_state new) between after = subst (λ (w : World). StopsMemory w (run_state mid) (run_state new) between after) played.place.world stop in
+      let here : StopsMemory (world_of old) line.order (run_state mid) (run_state new) between after = subst (λ (w : World). StopsMemory w line.order (run_state mid) (run_state new) between after) played.place.world stop in
       record {
         done = orders_of done;
         stopped = line.order;

@@ -1,5 +1,5 @@
 -- What the calls on seats promise, as what a line does in the run.
-use Rattle.std.proofs.Common.{◌≡◌, ℕ, List, Option, Result, Ok, Err, sym, subst, ◌∙◌}
+use Rattle.std.proofs.Common.{◌≡◌, ℕ, List, Option, Result, Ok, Err, refl, sym, subst, ◌∙◌}
 use Rattle.std.specs.Prelude.{IfOk, OnErr}
 use Rattle.mesh_model.specs.Meshes.{MeshLists}
 use Rattle.script_model.specs.declared.orders.Order.{Order}
@@ -14,15 +14,17 @@ use Rattle.run_model.specs.Lines.{Did, Does}
 use Rattle.run_model.specs.LineLaws.{does_reaches}
 use Rattle.session_seats.specs.Boards.{IsBoardFor}
 use Rattle.session_seats.specs.Orders.{DoesOrder, DoesPosting, ReachesSeats}
-use Rattle.session_seats.specs.Seats.{SeatsSeen, AreSeated}
+use Rattle.session_seats.specs.SeatChanges.{KeepsWords}
+use Rattle.session_seats.specs.Seats.{SeatsSeen, AreSeated, state_of}
 use Rattle.view_machine.specs.Machines.{world_with, state_in, IsMachine}
 use Rattle.view_machine.specs.MachineLaws.{KeepsMachine, keeps_machine}
 use Rattle.view_machine.specs.Stops.{StopsAt, AtEvents}
+use Rattle.view_machine.specs.OwnStops.{StepsAlone, StopsIn, own_stops}
 
--- whether it was done or refused memory, events lead to where a line ends
-pub does_either : {T E : Type 0} (w : World) (order : Order) (did : T → Did) (a b : State) (result : Result T E) → IfOk result (λ x. Does w a order (did x) b) → OnErr result (StopsAt w a b) → StopsAt w a b
+-- whether it was done or refused memory, it is known where the run stands
+pub does_either : {T E : Type 0} (w : World) (order : Order) (did : T → Did) (a b : State) (result : Result T E) → IfOk result (λ x. Does w a order (did x) b) → OnErr result (StopsIn w a order b) → StopsAt w a b
 does_either w order did a b (Ok x) does stops = AtEvents (does_reaches w a b order (did x) does)
-does_either w order did a b (Err e) does stops = stops
+does_either w order did a b (Err e) does stops = own_stops w a order b stops
 
 module _ (mesh : MeshLists) (bytes : Option (List ℕ)) (tiers : List TierState) (words : List Entry) (seats : SeatsSeen) (board : BoardSeen) (is : IsMachine mesh bytes tiers words seats board) where
   abbrev w : World
@@ -36,8 +38,16 @@ module _ (mesh : MeshLists) (bytes : Option (List ℕ)) (tiers : List TierState)
         → Does w (state_in tiers words seats board) order did (state_in tiers words_now seats_now board_now)
     seats_post order did board_now does = does.does w (sym is.over) tiers
 
-    pub seats_stop : ReachesSeats words seats words_now seats_now → StopsAt w (state_in tiers words seats board) (state_in tiers words_now seats_now board)
-    seats_stop reaches = AtEvents (reaches.reaches w (sym is.over) tiers board.views board.version)
+    pub steps_alone : (i : ℕ) → ReachesSeats words seats words_now seats_now → KeepsWords i words words_now → StepsAlone w i (state_in tiers words seats board) (state_in tiers words_now seats_now board)
+    unfolding state_of
+    steps_alone i reaches keeps = record {
+      reaches = reaches.reaches w (sym is.over) tiers board.views board.version;
+      tiers = refl;
+      epochs = keeps.epochs;
+      users = keeps.use_sets;
+      posted = refl;
+      version = refl;
+    }
 
     pub stop_keeps : (board_now : BoardSeen) → StopsAt w (state_in tiers words seats board) (state_in tiers words_now seats_now board_now) → seats_now.mesh ≡ seats.mesh → AreSeated seats_now.mesh words_now seats_now.sessions → IsBoardFor mesh board_now
         → Stays (is_pinned_in words) (is_pinned_in words_now) → KeepsMachine mesh bytes tiers tiers words_now seats_now board_now

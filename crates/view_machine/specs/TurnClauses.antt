@@ -30,7 +30,6 @@ use Rattle.run_model.specs.States.{State}
 use Rattle.run_model.specs.States.{board_of as wishes_of}
 use Rattle.run_model.specs.Turning.{TurnsTo}
 use Rattle.run_model.specs.Events.{Reaches}
-use Rattle.run_model.specs.Events.{Stays as NoEvent}
 use Rattle.script_model.specs.declared.orders.Order.TheVariants as orders
 use Rattle.run_model.specs.Lines.{DidTurns, SettlesTo, DoesSettle}
 use Rattle.run_model.specs.LineLaws.{does_reaches}
@@ -39,9 +38,10 @@ use Rattle.view_machine.specs.CountLaws.{one_counts, turns_count}
 use Rattle.view_machine.specs.LineCounts.{CountsTurns}
 use Rattle.view_machine.specs.Machines.{world_with, state_in, IsMachine}
 use Rattle.view_machine.specs.MachineLaws.{board_is}
-use Rattle.view_machine.specs.Stops.{began, StopsAt, AtEvents, AtTurn}
+use Rattle.view_machine.specs.Stops.{began, StopsAt, AtEvents}
+use Rattle.view_machine.specs.OwnStops.{StopsIn, AtStart, InTurn, InSettling, InSettlingTurn, own_stops}
 use Rattle.view_machine.specs.TurnStates.{state_at, IsSettingOf, turn_tells}
-use Rattle.view_machine.specs.SettleStates.{makes_reach, setting_again, turns_tell, settling_tells}
+use Rattle.view_machine.specs.SettleStates.{setting_again, turns_tell, settling_tells}
 
 -- what a chain over plain words tells at a moment
 abbrev pub moment_in : List TierState → ℕ → List Entry → List (ℕ × ℕ) → ℕ → ℕ → Moment
@@ -66,16 +66,18 @@ unfolding began
 took_wishes w a k t board now same is =
     ap (λ (ts : List TierState). record a { chain = chain_of ts a.chain.epochs }) (is ∙ ap (λ (b : Board). slice_set a.chain.tiers k (begun b t)) same)
 
-stopped : (w : World) (sessions : ℕ → Option SessionState) (posted : ℕ → Option Posted) (version : ℕ) (u : Setting) (k : ℕ) (a : State) (m n : Moment) → IsSettingOf w (state_at sessions posted version m) u → Reaches w a (state_at sessions posted version m)
-    → (n.tiers ≡ m.tiers) ⊎ TakesWishes u.board k m.tiers n.tiers → Stays m.words.epochs n.words.epochs → SetsStay m.words.users n.words.users → StopsAt w a (state_at sessions posted version n)
-stopped w sessions posted version u k a m n setting reaches tiers epochs users = by_tiers tiers
+-- what holds of the state at a moment, and where tier k has begun a turn in it, holds where that turn was refused memory
+stopped : (P : State → Type 0) (w : World) (sessions : ℕ → Option SessionState) (posted : ℕ → Option Posted) (version : ℕ) (u : Setting) (k : ℕ) (m n : Moment) → IsSettingOf w (state_at sessions posted version m) u → P (state_at sessions posted version m)
+    → ((t : TierState) → slice_get m.tiers k ≡ Some t → P (began w (state_at sessions posted version m) k t))
+    → (n.tiers ≡ m.tiers) ⊎ TakesWishes u.board k m.tiers n.tiers → Stays m.words.epochs n.words.epochs → SetsStay m.words.users n.words.users → P (state_at sessions posted version n)
+stopped P w sessions posted version u k m n setting here begins tiers epochs users = by_tiers tiers
   where
     still : state_at sessions posted version n ≡ record (state_at sessions posted version m) { chain = chain_of n.tiers m.words.epochs }
     still = stands_as sessions posted version m n epochs users
 
-    by_tiers : (n.tiers ≡ m.tiers) ⊎ TakesWishes u.board k m.tiers n.tiers → StopsAt w a (state_at sessions posted version n)
-    by_tiers (inl same) = AtEvents (subst (Reaches w a) (sym (still ∙ ap (λ (ts : List TierState). record (state_at sessions posted version m) { chain = chain_of ts m.words.epochs }) same)) reaches)
-    by_tiers (inr takes) = subst (StopsAt w a) (sym (still ∙ took_wishes w (state_at sessions posted version m) k takes.before u.board n.tiers setting.board takes.is)) (AtTurn k takes.before reaches takes.was)
+    by_tiers : (n.tiers ≡ m.tiers) ⊎ TakesWishes u.board k m.tiers n.tiers → P (state_at sessions posted version n)
+    by_tiers (inl same) = subst P (sym (still ∙ ap (λ (ts : List TierState). record (state_at sessions posted version m) { chain = chain_of ts m.words.epochs }) same)) here
+    by_tiers (inr takes) = subst P (sym (still ∙ took_wishes w (state_at sessions posted version m) k takes.before u.board n.tiers setting.board takes.is)) (begins takes.before takes.was)
 
 -- ---- what a turn's clauses say together
 
@@ -134,9 +136,9 @@ pub record LogsLine (w : World) (a : State) (old new : List TurnLine) (b : State
 pub settles_reach : (w : World) (a : State) (old new : List TurnLine) (b : State) (f g t u : ℕ) → LogsLine w a old new b f g t u → Reaches w a b
 settles_reach w a old new b f g t u logs = does_reaches w a b orders.Settle (DidTurns logs.turns) (DoesSettle logs.settles)
 
-pub settles_either : {E : Type 0} (w : World) (a : State) (old new : List TurnLine) (b : State) (f g t u : ℕ) (result : Result (Unit {0}) E) → OnOk result (LogsLine w a old new b f g t u) → OnErr result (StopsAt w a b) → StopsAt w a b
+pub settles_either : {E : Type 0} (w : World) (a : State) (old new : List TurnLine) (b : State) (f g t u : ℕ) (result : Result (Unit {0}) E) → OnOk result (LogsLine w a old new b f g t u) → OnErr result (StopsIn w a orders.Settle b) → StopsAt w a b
 settles_either w a old new b f g t u (Ok x) logs stops = AtEvents (settles_reach w a old new b f g t u logs)
-settles_either w a old new b f g t u (Err e) logs stops = stops
+settles_either w a old new b f g t u (Err e) logs stops = own_stops w a orders.Settle b stops
 
 pub if_ok_log : {E P : Type 0} (result : Result (Unit {0}) E) (Q : Type 0) → (P → Q) → IfOk result (λ _. P) → OnOk result Q
 if_ok_log (Ok x) Q then p = then p
@@ -171,9 +173,10 @@ module _ (mesh : MeshLists) (bytes : Option (List ℕ)) (tiers : List TierState)
     unfolding state_of
     turn_counts k answer turn = one_counts w u k answer first last is.safe.many (λ t at. (is.safe.set_up k t at).made.sizes) setting_is.index setting_is.bodies turn
 
-    pub turn_stops : (k : ℕ) → TakesWishes u.board k tiers now → Stays (epoch_in words) (epoch_in words_now) → SetsStay (is_user_in words) (is_user_in words_now) → StopsAt w (state_in tiers words seats board) (state_in now words_now seats board)
+    pub turn_stops : (k : ℕ) → TakesWishes u.board k tiers now → Stays (epoch_in words) (epoch_in words_now) → SetsStay (is_user_in words) (is_user_in words_now) → StopsIn w (state_in tiers words seats board) (orders.Turn k) (state_in now words_now seats board)
     unfolding state_of
-    turn_stops k takes epochs users = stopped w (at_seat seats.sessions) (at_seat board.views) board.version u k (state_in tiers words seats board) first last setting_is NoEvent (inr takes) epochs users
+    turn_stops k takes epochs users =
+        stopped (StopsIn w (state_in tiers words seats board) (orders.Turn k)) w (at_seat seats.sessions) (at_seat board.views) board.version u k first last setting_is AtStart (InTurn k) (inr takes) epochs users
 
     -- the settling is one of the run
     pub settling_is : (old new : List TurnLine) (logs : LogsSettling u (length tiers) first last old new) → SettlesTo w (length w.budgets) (state_in tiers words seats board) logs.made (state_in now words_now seats board)
@@ -187,7 +190,7 @@ module _ (mesh : MeshLists) (bytes : Option (List ℕ)) (tiers : List TierState)
     unfolding state_of
     settling_counts made turns = turns_count w is.world (at_seat seats.sessions) (at_seat board.views) board.version u first last made setting_is is.safe turns
 
-    pub settling_stops : (old new : List TurnLine) → LogsStop u first last old new → StopsAt w (state_in tiers words seats board) (state_in now words_now seats board)
+    pub settling_stops : (old new : List TurnLine) → LogsStop u first last old new → StopsIn w (state_in tiers words seats board) orders.Settle (state_in now words_now seats board)
     unfolding state_of
     settling_stops old new logs =
         let sessions = at_seat seats.sessions in
@@ -195,6 +198,6 @@ module _ (mesh : MeshLists) (bytes : Option (List ℕ)) (tiers : List TierState)
         let a = state_in tiers words seats board in
         let stops = logs.stops in
         let makes = turns_tell w is.world sessions posted board.version u first stops.last logs.made setting_is is.safe stops.turns in
-        stopped w sessions posted board.version u stops.tier a stops.last last
+        stopped (StopsIn w a orders.Settle) w sessions posted board.version u stops.tier stops.last last
         (setting_again w is.world sessions posted board.version u first stops.last setting_is)
-        (makes_reach w a (state_at sessions posted board.version stops.last) logs.made makes) stops.refused.tiers stops.refused.epochs (stops.refused.sets.users refl)
+        (InSettling logs.made makes) (λ t at. InSettlingTurn logs.made stops.tier t makes at) stops.refused.tiers stops.refused.epochs (stops.refused.sets.users refl)

@@ -2,6 +2,7 @@
 use Rattle.std.proofs.Common.{◌≡◌, ℕ, List, length, Option, Result, Ok, Err, sym, subst, ◌∙◌}
 use Rattle.std.specs.Prelude.{IfOk, OnErr}
 use Rattle.mesh_model.specs.Meshes.{MeshLists}
+use Rattle.script_model.specs.declared.orders.Order.TheVariants as orders
 use Rattle.session_model.specs.Sessions.{SessionState}
 use Rattle.token_words.specs.Changes.{Stays, SetsStay}
 use Rattle.token_words.specs.PlainTokens.{is_pinned_in, is_user_in, is_locker_in}
@@ -17,11 +18,12 @@ use Rattle.session_seats.specs.Seats.{SeatsSeen, AreSeated}
 use Rattle.view_machine.specs.Machines.{world_with, state_in, IsMachine}
 use Rattle.view_machine.specs.MachineLaws.{KeepsMachine, keeps_machine}
 use Rattle.view_machine.specs.Stops.{StopsAt, AtEvents}
+use Rattle.view_machine.specs.OwnStops.{StopsIn, own_stops}
 
--- whether it was made or refused memory, events lead to where a turn ends
-pub stops_either : {E : Type 0} (w : World) (k : ℕ) (a b : State) (result : Result Turn E) → IfOk result (λ answer. TurnsTo w k a answer b) → OnErr result (StopsAt w a b) → StopsAt w a b
+-- whether it was made or refused memory, it is known where the run stands
+pub stops_either : {E : Type 0} (w : World) (k : ℕ) (a b : State) (result : Result Turn E) → IfOk result (λ answer. TurnsTo w k a answer b) → OnErr result (StopsIn w a (orders.Turn k) b) → StopsAt w a b
 stops_either w k a b (Ok answer) turn stops = AtEvents (Then (Turns k answer turn) NoEvent)
-stops_either w k a b (Err e) turn stops = stops
+stops_either w k a b (Err e) turn stops = own_stops w a (orders.Turn k) b stops
 
 -- the sets of the words stay, with as many words
 pub record KeepsSeats (words now : List Entry) : Type 0 where

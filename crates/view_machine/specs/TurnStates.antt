@@ -19,7 +19,7 @@ use Rattle.tier_model.specs.Chains.{told_at, epochs_then}
 use Rattle.cache_chain.specs.ChainStates.{IsFileBody, FindsChanged}
 use Rattle.cache_chain.specs.Turning.{chain_of, AtLowest}
 use Rattle.cache_chain.specs.Turning.{GivesBelow as ChainGives}
-use Rattle.cache_chain.specs.ChainLaws.{got_more}
+use Rattle.cache_chain.specs.AnswerMaps.{got_more}
 use Rattle.cache_chain.specs.TurnRuns.{Setting, Moment, chain_at, MakesTurn}
 use Rattle.run_model.specs.Worlds.{World}
 use Rattle.run_model.specs.States.{State, board_of, moved}

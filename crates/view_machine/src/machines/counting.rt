@@ -5,13 +5,14 @@ ghost use Rattle.grid_vertex.specs.declared.triangles.Triangle.{Triangle};
 ghost use Rattle.file_model.specs.Lists.{triangles_of};
 ghost use Rattle.edge_chain.specs.Chains.{IsNetOf};
 ghost use Rattle.frame_writer.specs.Frames.{triangles_in};
+ghost use Rattle.script_model.specs.declared.orders.Order.TheVariants as orders;
 ghost use Rattle.session_model.specs.Sessions.{SessionState};
 ghost use Rattle.session_model.specs.DoneRounds.{HasDone};
 ghost use Rattle.text_model.specs.FrameText.{Frame};
 ghost use Rattle.run_model.specs.Lines.{frame_of, top_body};
 ghost use Rattle.session_seats.specs.Seats.{at_seat, HasView, IsDoneAt};
 ghost use Rattle.view_machine.specs.Machines.{world_of, run_state, KeepsPlace};
-ghost use Rattle.view_machine.specs.Stops.{StopsAt};
+ghost use Rattle.view_machine.specs.OwnStops.{StopsIn};
 ghost use Rattle.view_machine.specs.LineEnds.{frames_at};
 ghost use Rattle.view_machine.specs.FrameLines.{IsAtTop};
 ghost use Rattle.view_machine.specs.FrameSizes.{HasSize, ShowsSize};
@@ -100,7 +101,8 @@ impl<'a, S: Store> Machine<'a, S> {
         ensures line { IfOk result
             (ShowsSize (world_of self.old) session (run_state self.old) (run_state self.new)) }
         ensures none { OnErr result
-            (StopsAt (world_of self.old) (run_state self.old) (run_state self.new)) }
+            (StopsIn (world_of self.old) (run_state self.old) (orders.Frame session)
+            (run_state self.new)) }
         ensures place { KeepsPlace self.old self.new }
         ensures board { self.new.board ≡ self.old.board }
         ensures chain { self.new.chain ≡ self.old.chain }

@@ -13,7 +13,7 @@ ghost use Rattle.run_model.specs.Lines.{DidFrame, Does, frame_of, top_body};
 ghost use Rattle.session_seats.specs.Orders.{FinishesRound};
 ghost use Rattle.session_seats.specs.Seats.{SeatsSeen, SessionTold, at_seat, HasView, IsDoneAt, told_at, one_frame_more};
 ghost use Rattle.view_machine.specs.Machines.{world_of, run_state, state_in, KeepsPlace};
-ghost use Rattle.view_machine.specs.Stops.{StopsAt};
+ghost use Rattle.view_machine.specs.OwnStops.{StopsIn};
 ghost use Rattle.view_machine.specs.LineTells.{DoesLine};
 ghost use Rattle.view_machine.specs.LineEnds.{frames_at};
 ghost use Rattle.view_machine.specs.FrameLines.{IsAtTop};
@@ -62,7 +62,8 @@ impl<'a, S: Store> Machine<'a, S> {
         requires { HasView self.old.seats.sessions session }
         ensures round { OnOk result
             (FinishesRound session self.old.words self.old.seats self.new.words self.new.seats) }
-        ensures stops { StopsAt (world_of self.old) (run_state self.old) (run_state self.new) }
+        ensures stops { StopsIn (world_of self.old) (run_state self.old) (orders.Frame session)
+            (run_state self.new) }
         ensures mesh { self.new.seats.mesh ≡ self.old.seats.mesh }
         ensures told { Stays (told_at self.old.seats.sessions) (told_at self.new.seats.sessions) }
         ensures place { KeepsPlace self.old self.new }
@@ -132,7 +133,8 @@ impl<'a, S: Store> Machine<'a, S> {
             DoesLine (world_of self.old) (orders.Frame session) (run_state self.old)
             (run_state self.new) text.items) }
         ensures none { OnErr result
-            (StopsAt (world_of self.old) (run_state self.old) (run_state self.new)) }
+            (StopsIn (world_of self.old) (run_state self.old) (orders.Frame session)
+            (run_state self.new)) }
         ensures told { OnOk result
             ((told : SessionTold) → told_at self.old.seats.sessions session ≡ Some told
             → SetAt (told_at self.old.seats.sessions) session (Some (one_frame_more told))

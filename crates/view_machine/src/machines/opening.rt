@@ -6,7 +6,7 @@ ghost use Rattle.view_outside.specs.Taken.{taken_after};
 ghost use Rattle.mesh_model.specs.Graph.{outgoing};
 ghost use Rattle.tier_model.specs.Tiers.{IsWidth};
 ghost use Rattle.cache_chain.specs.ChainStates.{states_of, AreTiersOf};
-ghost use Rattle.cache_chain.specs.Refusals.{base_size, NamesBudget, NamesChange, NamesBodyFault};
+ghost use Rattle.cache_chain.specs.Refusals.{base_size, NamesBudget, NamesChange, NamesBodyFault, HasCauseIn};
 ghost use Rattle.cache_chain.specs.declared.refusals.StartRefusal.TheVariants.{Budget};
 ghost use Rattle.run_model.specs.Worlds.{IsWorld};
 ghost use Rattle.run_model.specs.Safe.{IsSafe};
@@ -122,6 +122,8 @@ impl<'a, S: Store> Machine<'a, S> {
             IfErr result
             (NamesChange mesh.now.lists.index bytes
             (outgoing mesh.now.lists.index.fields mesh.now.lists.root))) }
+        ensures reason { IfErr result
+            (HasCauseIn S.files S.faults S.taken (base_size mesh.now.lists) store.old) }
         ensures taken { IfOk result
             (λ machine.
             S.taken machine.chain.store
@@ -136,9 +138,9 @@ impl<'a, S: Store> Machine<'a, S> {
 
     /// The same, where each tier takes up to `width` patches, 1 to 8, at a time.
     ///
-    /// `Budget` comes exactly where the bodies of the base patches have more bytes than the first budget. What a
-    /// refusal leaves of the store, and that `ReadFault` has a cause, is said by `open_tiers`, behind which
-    /// `over_tiers` makes the machine.
+    /// `Budget` comes exactly where the bodies of the base patches have more bytes than the first budget, and
+    /// `ReadFault` only where the store came to a state in which its faults rose. That a refusal leaves the
+    /// store in that state is said by `open_tiers`, behind which `over_tiers` makes the machine.
     pub fn start_wide(
         alloc: Global,
         mesh: &'a Mesh,
@@ -167,6 +169,8 @@ impl<'a, S: Store> Machine<'a, S> {
             IfErr result
             (NamesChange mesh.now.lists.index bytes
             (outgoing mesh.now.lists.index.fields mesh.now.lists.root))) }
+        ensures reason { IfErr result
+            (HasCauseIn S.files S.faults S.taken (base_size mesh.now.lists) store.old) }
         ensures taken { IfOk result
             (λ machine.
             S.taken machine.chain.store

@@ -7,7 +7,7 @@ ghost use Rattle.token_words.specs.Sessions.{IsSession};
 ghost use Rattle.run_model.specs.Lines.{DidClose, DidFree, DidStep, Does};
 ghost use Rattle.session_seats.specs.Seats.{SessionTold, at_seat, IsOpen, HasView, told_at, just_opened, told_view};
 ghost use Rattle.view_machine.specs.Machines.{world_of, run_state, KeepsPlace};
-ghost use Rattle.view_machine.specs.Stops.{StopsAt};
+ghost use Rattle.view_machine.specs.OwnStops.{StopsIn};
 ghost use Rattle.view_machine.specs.LineTells.{DoesLine};
 
 use crate::machines::Machine;
@@ -72,7 +72,8 @@ impl<'a, S: Store> Machine<'a, S> {
             Does (world_of self.old) (run_state self.old) (orders.Step session)
             (DidStep session did) (run_state self.new)) }
         ensures none { OnErr result
-            (StopsAt (world_of self.old) (run_state self.old) (run_state self.new)) }
+            (StopsIn (world_of self.old) (run_state self.old) (orders.Step session)
+            (run_state self.new)) }
         ensures told { Stays (told_at self.old.seats.sessions) (told_at self.new.seats.sessions) }
         ensures place { KeepsPlace self.old self.new }
         ensures board { self.new.board ≡ self.old.board }
@@ -89,7 +90,8 @@ impl<'a, S: Store> Machine<'a, S> {
             DoesLine (world_of self.old) (orders.Step session) (run_state self.old)
             (run_state self.new) text.items) }
         ensures none { OnErr result
-            (StopsAt (world_of self.old) (run_state self.old) (run_state self.new)) }
+            (StopsIn (world_of self.old) (run_state self.old) (orders.Step session)
+            (run_state self.new)) }
         ensures told { Stays (told_at self.old.seats.sessions) (told_at self.new.seats.sessions) }
         ensures place { KeepsPlace self.old self.new }
         ensures board { self.new.board ≡ self.old.board }
@@ -122,7 +124,8 @@ impl<'a, S: Store> Machine<'a, S> {
             DoesLine (world_of self.old) (orders.Free session) (run_state self.old)
             (run_state self.new) text.items) }
         ensures none { OnErr result
-            (StopsAt (world_of self.old) (run_state self.old) (run_state self.new)) }
+            (StopsIn (world_of self.old) (run_state self.old) (orders.Free session)
+            (run_state self.new)) }
         ensures told { Stays (told_at self.old.seats.sessions) (told_at self.new.seats.sessions) }
         ensures place { KeepsPlace self.old self.new }
         ensures board { self.new.board ≡ self.old.board }
@@ -158,7 +161,8 @@ impl<'a, S: Store> Machine<'a, S> {
             DoesLine (world_of self.old) (orders.Close session) (run_state self.old)
             (run_state self.new) text.items) }
         ensures none { OnErr result
-            (StopsAt (world_of self.old) (run_state self.old) (run_state self.new)) }
+            (StopsIn (world_of self.old) (run_state self.old) (orders.Close session)
+            (run_state self.new)) }
         ensures told { SetAt (told_at self.old.seats.sessions) session None
             (told_at self.new.seats.sessions) }
         ensures version { self.new.board.version ≤ self.old.board.version + 1 }

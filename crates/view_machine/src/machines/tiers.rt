@@ -8,7 +8,7 @@ ghost use Rattle.run_model.specs.Turning.{TurnsTo};
 ghost use Rattle.run_model.specs.Lines.{tier_told};
 ghost use Rattle.run_model.specs.LineTexts.{turn_lines, tier_line};
 ghost use Rattle.view_machine.specs.Machines.{world_of, run_state, KeepsPlace};
-ghost use Rattle.view_machine.specs.Stops.{StopsAt};
+ghost use Rattle.view_machine.specs.OwnStops.{StopsIn};
 ghost use Rattle.view_machine.specs.LineTells.{DoesLine};
 ghost use Rattle.view_machine.specs.LineCounts.{CountsTurns, DoesCounted};
 ghost use Rattle.view_machine.specs.TurnClauses.{turn_in, LogsLine};
@@ -34,7 +34,8 @@ impl<'a, S: Store> Machine<'a, S> {
             (S.faults self.old.chain.store) (S.faults self.new.chain.store)
             (S.taken self.old.chain.store) (S.taken self.new.chain.store)) }
         ensures none { OnErr result
-            (StopsAt (world_of self.old) (run_state self.old) (run_state self.new)) }
+            (StopsIn (world_of self.old) (run_state self.old) (orders.Turn tier)
+            (run_state self.new)) }
         ensures place { KeepsPlace self.old self.new }
         ensures seats { self.new.seats ≡ self.old.seats }
         ensures board { self.new.board ≡ self.old.board }
@@ -54,7 +55,8 @@ impl<'a, S: Store> Machine<'a, S> {
             (S.faults self.new.chain.store) (S.taken self.old.chain.store)
             (S.taken self.new.chain.store)) }
         ensures none { OnErr result
-            (StopsAt (world_of self.old) (run_state self.old) (run_state self.new)) }
+            (StopsIn (world_of self.old) (run_state self.old) (orders.Turn tier)
+            (run_state self.new)) }
         ensures place { KeepsPlace self.old self.new }
         ensures seats { self.new.seats ≡ self.old.seats }
         ensures board { self.new.board ≡ self.old.board }
@@ -75,7 +77,8 @@ impl<'a, S: Store> Machine<'a, S> {
             (S.faults self.new.chain.store) (S.taken self.old.chain.store)
             (S.taken self.new.chain.store)) }
         ensures none { OnErr result
-            (StopsAt (world_of self.old) (run_state self.old) (run_state self.new)) }
+            (StopsIn (world_of self.old) (run_state self.old) orders.Settle
+            (run_state self.new)) }
         ensures place { KeepsPlace self.old self.new }
         ensures seats { self.new.seats ≡ self.old.seats }
         ensures board { self.new.board ≡ self.old.board }
@@ -95,7 +98,8 @@ impl<'a, S: Store> Machine<'a, S> {
             (S.faults self.new.chain.store) (S.taken self.old.chain.store)
             (S.taken self.new.chain.store)) }
         ensures none { OnErr result
-            (StopsAt (world_of self.old) (run_state self.old) (run_state self.new)) }
+            (StopsIn (world_of self.old) (run_state self.old) orders.Settle
+            (run_state self.new)) }
         ensures place { KeepsPlace self.old self.new }
         ensures seats { self.new.seats ≡ self.old.seats }
         ensures board { self.new.board ≡ self.old.board }

@@ -1,3 +1,4 @@
+use Rattle.script_model.specs.declared.orders.Order.TheVariants as orders
 use Rattle.std.proofs.Common.{ℕ, List, Option, refl, sym, subst}
 use Rattle.std.specs.Prelude.{OnOk}
 use Rattle.mesh_model.specs.Meshes.{MeshLists}
@@ -11,9 +12,9 @@ use Rattle.session_seats.specs.Orders.{FinishesRound}
 use Rattle.session_seats.specs.Seats.{SeatsSeen, AreSeated, told_at}
 use Rattle.view_machine.specs.Machines.{MachineSeen, world_of, run_state, world_with, state_in, KeepsPlace, IsMachine}
 use Rattle.view_machine.specs.MachineLaws.{KeepsMachine}
-use Rattle.view_machine.specs.SeatLines.{seats_stop, stop_keeps}
+use Rattle.view_machine.specs.SeatLines.{steps_alone, stop_keeps}
 use Rattle.view_machine.specs.FrameSeats.{finish_reaches}
-use Rattle.view_machine.specs.Stops.{StopsAt}
+use Rattle.view_machine.specs.OwnStops.{StopsIn, InFrame, own_stops}
 use Rattle.view_machine.proofs.machines.Machine.finish_session.Goals as goal
 use Rattle.view_machine.proofs.machines.Machine.finish_session.Given as given
 
@@ -50,10 +51,11 @@ module _ (g : given.Over) (c : goal.After-finish g) where
   abbrev is : IsMachine mesh bytes tiers words seats board
   is = c.self.invariant
 
-  stops : StopsAt (world_with mesh bytes tiers) (state_in tiers words seats board) (state_in tiers words_now seats_now board)
+  stops : StopsIn (world_with mesh bytes tiers) (state_in tiers words seats board) (orders.Frame c.args.session) (state_in tiers words_now seats_now board)
   stops =
-      seats_stop mesh bytes tiers words seats board is words_now seats_now
-      (finish_reaches c.args.session words seats words_now seats_now c.finish.result c.finish.ensures.round c.finish.ensures.none)
+      InFrame c.args.session
+      (steps_alone mesh bytes tiers words seats board is words_now seats_now c.args.session
+      (finish_reaches c.args.session words seats words_now seats_now c.finish.result c.finish.ensures.round c.finish.ensures.none) c.finish.ensures.words)
 
   abbrev seen_now : MachineSeen g.row.S.Denot
   seen_now = record { chain = c.self.inside.chain; words = words_now; seats = seats_now; board = board; bytes = bytes }
@@ -61,7 +63,7 @@ module _ (g : given.Over) (c : goal.After-finish g) where
   kept : KeepsMachine mesh bytes tiers tiers words_now seats_now board
   kept =
       let e = c.finish.ensures in
-      stop_keeps mesh bytes tiers words seats board is words_now seats_now board stops e.mesh e.seated is.on_board e.words.pins
+      stop_keeps mesh bytes tiers words seats board is words_now seats_now board (own_stops (world_with mesh bytes tiers) (state_in tiers words seats board) (orders.Frame c.args.session) (state_in tiers words_now seats_now board) stops) e.mesh e.seated is.on_board e.words.pins
 
 pub invariant_of-self : goal.invariant_of-self
 invariant_of-self g c = (kept g c).is
@@ -72,7 +74,7 @@ returns-clause-round g c =
 
 pub returns-clause-stops : goal.returns-clause-stops
 returns-clause-stops g c =
-    subst (λ (m : MachineSeen g.row.S.Denot). StopsAt (world_of m) (run_state m) (state_in (tiers g c) (words_now g c) (seats_now g c) (board g c))) c.self.view_is (stops g c)
+    subst (λ (m : MachineSeen g.row.S.Denot). StopsIn (world_of m) (run_state m) (orders.Frame c.args.session) (state_in (tiers g c) (words_now g c) (seats_now g c) (board g c))) c.self.view_is (stops g c)
 
 pub returns-clause-told : goal.returns-clause-told
 returns-clause-told g c =

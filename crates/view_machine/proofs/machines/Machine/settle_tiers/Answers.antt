@@ -1,3 +1,4 @@
+use Rattle.script_model.specs.declared.orders.Order.TheVariants as orders
 use Rattle.std.proofs.Common.{ℕ, List, [], false, refl, Option, OnOk, OnErr, sym, ap, ap₂, subst, ◌∙◌}
 use Rattle.mesh_model.specs.Meshes.{MeshLists}
 use Rattle.accepted_mesh.specs.MeshView.{MeshSeen}
@@ -9,7 +10,7 @@ use Rattle.wish_board.specs.Boards.{BoardSeen}
 use Rattle.session_seats.specs.Seats.{SeatsSeen}
 use Rattle.view_machine.specs.Machines.{MachineSeen, world_of, run_state, world_with, state_in, KeepsPlace, IsMachine}
 use Rattle.view_machine.specs.MachineLaws.{keeps_wishes, is_tied}
-use Rattle.view_machine.specs.Stops.{StopsAt}
+use Rattle.view_machine.specs.OwnStops.{StopsIn}
 use Rattle.view_machine.specs.TurnClauses.{LogsLine, settles_either, if_ok_log, if_err_both, settling_is, settling_counts, settling_stops}
 use Rattle.view_machine.specs.TurnKeeps.{StaysMachine, turns_keep}
 use Rattle.view_machine.proofs.machines.Machine.settle_tiers.Goals as goal
@@ -74,7 +75,7 @@ module _ (g : given.Over) (c : goal.After-settle g) where
         counts = settling_counts mesh bytes tiers words seats board is false (patch_count c.self.inside.words) [] faults taken now (patch_count c.settle.new.keeper) words_now [] faults_now taken_now logs.made logs.turns;
       }) c.settle.ensures.settled
 
-  stops : OnErr c.settle.result (StopsAt (world_with mesh bytes tiers) (state_in tiers words seats board) (state_in now words_now seats board))
+  stops : OnErr c.settle.result (StopsIn (world_with mesh bytes tiers) (state_in tiers words seats board) orders.Settle (state_in now words_now seats board))
   stops = if_err_both c.settle.result
       (λ logs again. settling_stops mesh bytes tiers words seats board is false (patch_count c.self.inside.words) [] faults taken now (patch_count c.settle.new.keeper) words_now [] faults_now taken_now c.args.log.now.items c.settle.new.log.items logs)
       c.settle.ensures.stopped c.settle.ensures.stopped
@@ -99,7 +100,7 @@ returns-clause-settles g c =
 
 pub returns-clause-none : goal.returns-clause-none
 returns-clause-none g c =
-    subst (λ (m : MachineSeen g.row.S.Denot). OnErr c.settle.result (StopsAt (world_of m) (run_state m) (state_in (now g c) (words_now g c) (seats g c) (board g c)))) c.self.view_is (stops g c)
+    subst (λ (m : MachineSeen g.row.S.Denot). OnErr c.settle.result (StopsIn (world_of m) (run_state m) orders.Settle (state_in (now g c) (words_now g c) (seats g c) (board g c)))) c.self.view_is (stops g c)
 
 pub returns-clause-place : goal.returns-clause-place
 returns-clause-place g c =

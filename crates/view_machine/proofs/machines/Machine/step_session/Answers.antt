@@ -11,8 +11,8 @@ use Rattle.wish_board.specs.Boards.{BoardSeen}
 use Rattle.run_model.specs.Lines.{DidStep, Does}
 use Rattle.view_machine.specs.Machines.{MachineSeen, world_of, run_state, world_with, state_in, KeepsPlace, IsMachine}
 use Rattle.view_machine.specs.MachineLaws.{KeepsMachine}
-use Rattle.view_machine.specs.SeatLines.{does_either, seats_do, seats_stop, stop_keeps}
-use Rattle.view_machine.specs.Stops.{StopsAt}
+use Rattle.view_machine.specs.SeatLines.{does_either, seats_do, steps_alone, stop_keeps}
+use Rattle.view_machine.specs.OwnStops.{StopsIn, InStep}
 use Rattle.view_machine.specs.TurnClauses.{if_ok_then, if_err_both}
 use Rattle.view_machine.proofs.machines.Machine.step_session.Goals as goal
 use Rattle.view_machine.proofs.machines.Machine.step_session.Given as given
@@ -53,8 +53,8 @@ module _ (g : given.Over) (c : goal.After-step g) where
   does : IfOk c.step.result (λ did. Does (world_with mesh bytes tiers) (state_in tiers words seats board) (orders.Step c.args.session) (DidStep c.args.session did) (state_in tiers words_now seats_now board))
   does = if_ok_then c.step.result (λ did one. seats_do mesh bytes tiers words seats board is words_now seats_now (orders.Step c.args.session) (DidStep c.args.session did) one) c.step.ensures.does
 
-  stops : OnErr c.step.result (StopsAt (world_with mesh bytes tiers) (state_in tiers words seats board) (state_in tiers words_now seats_now board))
-  stops = if_err_both c.step.result (λ reaches again. seats_stop mesh bytes tiers words seats board is words_now seats_now reaches) c.step.ensures.none c.step.ensures.none
+  stops : OnErr c.step.result (StopsIn (world_with mesh bytes tiers) (state_in tiers words seats board) (orders.Step c.args.session) (state_in tiers words_now seats_now board))
+  stops = if_err_both c.step.result (λ reaches again. InStep c.args.session (steps_alone mesh bytes tiers words seats board is words_now seats_now c.args.session reaches c.step.ensures.words)) c.step.ensures.none c.step.ensures.none
 
   abbrev seen_now : MachineSeen g.row.S.Denot
   seen_now = record { chain = c.self.inside.chain; words = words_now; seats = seats_now; board = board; bytes = bytes }
@@ -75,7 +75,7 @@ returns-clause-does g c =
 
 pub returns-clause-none : goal.returns-clause-none
 returns-clause-none g c =
-    subst (λ (m : MachineSeen g.row.S.Denot). OnErr c.step.result (StopsAt (world_of m) (run_state m) (state_in (tiers g c) (words_now g c) (seats_now g c) (board g c)))) c.self.view_is (stops g c)
+    subst (λ (m : MachineSeen g.row.S.Denot). OnErr c.step.result (StopsIn (world_of m) (run_state m) (orders.Step c.args.session) (state_in (tiers g c) (words_now g c) (seats_now g c) (board g c)))) c.self.view_is (stops g c)
 
 pub returns-clause-place : goal.returns-clause-place
 returns-clause-place g c =

@@ -1,3 +1,4 @@
+use Rattle.script_model.specs.declared.orders.Order.TheVariants as orders
 use Rattle.std.proofs.Common.{ℕ, List, [], ◌∷◌, false, refl, Option, IfOk, OnErr, sym, ap, ap₂, subst, ◌∙◌}
 use Rattle.mesh_model.specs.Meshes.{MeshLists}
 use Rattle.accepted_mesh.specs.MeshView.{MeshSeen}
@@ -12,7 +13,7 @@ use Rattle.session_seats.specs.Seats.{SeatsSeen}
 use Rattle.view_machine.specs.LineCounts.{CountsTurns}
 use Rattle.view_machine.specs.Machines.{MachineSeen, world_of, run_state, world_with, state_in, KeepsPlace, IsMachine}
 use Rattle.view_machine.specs.MachineLaws.{keeps_wishes, is_tied}
-use Rattle.view_machine.specs.Stops.{StopsAt}
+use Rattle.view_machine.specs.OwnStops.{StopsIn}
 use Rattle.view_machine.specs.TurnClauses.{setting_in, moment_in, turn_made, if_ok_then, if_err_both, turn_is, turn_counts, turn_stops}
 use Rattle.view_machine.specs.TurnKeeps.{stops_either, StaysMachine, turns_keep}
 use Rattle.view_machine.proofs.machines.Machine.turn_tier.Goals as goal
@@ -83,7 +84,7 @@ module _ (g : given.Over) (c : goal.After-turn g) where
       now (patch_count c.turn.new.keeper) words_now [] (g.S.Store.faults c.turn.new.self.store) (g.S.Store.taken c.turn.new.self.store) c.args.tier answer one)
       made
 
-  stops : OnErr c.turn.result (StopsAt (world_with mesh bytes tiers) (state_in tiers words seats board) (state_in now words_now seats board))
+  stops : OnErr c.turn.result (StopsIn (world_with mesh bytes tiers) (state_in tiers words seats board) (orders.Turn c.args.tier) (state_in now words_now seats board))
   stops = if_err_both c.turn.result
       (λ takes epochs. turn_stops mesh bytes tiers words seats board is false (patch_count c.self.inside.words) [] (g.S.Store.faults c.self.inside.chain.store) (g.S.Store.taken c.self.inside.chain.store)
       now (patch_count c.turn.new.keeper) words_now [] (g.S.Store.faults c.turn.new.self.store) (g.S.Store.taken c.turn.new.self.store) c.args.tier takes epochs (c.turn.ensures.use_sets refl))
@@ -113,7 +114,7 @@ returns-clause-counts g c =
 
 pub returns-clause-none : goal.returns-clause-none
 returns-clause-none g c =
-    subst (λ (m : MachineSeen g.row.S.Denot). OnErr c.turn.result (StopsAt (world_of m) (run_state m) (state_in (now g c) (words_now g c) (seats g c) (board g c)))) c.self.view_is (stops g c)
+    subst (λ (m : MachineSeen g.row.S.Denot). OnErr c.turn.result (StopsIn (world_of m) (run_state m) (orders.Turn c.args.tier) (state_in (now g c) (words_now g c) (seats g c) (board g c)))) c.self.view_is (stops g c)
 
 pub returns-clause-place : goal.returns-clause-place
 returns-clause-place g c =
