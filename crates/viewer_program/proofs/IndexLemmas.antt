@@ -11,7 +11,7 @@ use Rattle.dag_check.specs.Checks.{Checks}
 use Rattle.patch_file.specs.Taking.{index_size}
 use Rattle.view_outside.specs.OnlyRead.{OnlyIf}
 use Rattle.view_outside.specs.Taken.{RisesBelow}
-use Rattle.viewer_program.specs.PlayEnds.{TakesLess}
+use Rattle.viewer_program.specs.Loading.{TakesLess}
 use Rattle.viewer_program.proofs.TakenLemmas.{takes_index}
 
 index_fault : (bytes : List ℕ) (refusal : ReadRefusal) → Refuses refusal (index_in bytes) → Checks bytes (Err (check_refusal refusal))

@@ -7,3 +7,4 @@ pub mod RunFailures
 pub mod RunLemmas
 pub mod TakenLemmas
 pub mod SpeltLemmas
+pub mod StillLemmas

@@ -1,5 +1,5 @@
 -- What stands before a run: the world, and the refusals that come before its lines.
-use Rattle.std.proofs.Common.{◌≡◌, ◌≢◌, ℕ, zero, suc, ◌+◌, ◌<◌, ◌≤◌, leb, ◌⊎◌, List, [], ◌∷◌, length, map, Option, Some, None, Result, Ok, Err, refl, sym, ap, subst, ◌∙◌, inl, inr, arith}
+use Rattle.std.proofs.Common.{◌≡◌, ℕ, zero, suc, ◌+◌, ◌<◌, ◌≤◌, leb, ◌⊎◌, List, [], ◌∷◌, length, map, Option, Some, None, Result, Ok, Err, refl, sym, ap, subst, ◌∙◌, inl, inr, arith}
 use Rattle.std.specs.Prelude.{slice_get, slice_index, option_map, ◌==◌, IfSome, IsTrue}
 use Rattle.std.specs.List.{range_with_len, list_all}
 use Rattle.std.proofs.lemmas.Bool.{and_parts, leb-true, eqb-true, cases_lt}
@@ -16,7 +16,7 @@ use Rattle.mesh_model.specs.declared.refusals.Refusal.TheVariants.{File, Dag}
 use Rattle.mesh_model.specs.Graph.{outgoing}
 use Rattle.mesh_model.specs.Accepted.{IsAccepted}
 use Rattle.mesh_model.specs.Meshes.{MeshLists, IsMesh}
-use Rattle.accepted_mesh.specs.MeshView.{MeshSeen, IsMeshOf}
+use Rattle.accepted_mesh.specs.MeshView.{MeshSeen}
 use Rattle.body_loads.specs.Loads.{body_at}
 use Rattle.body_loads.specs.LoadLaws.{loads_body, loads_no_fault}
 use Rattle.dag_check.specs.declared.refusals.CheckRefusal.{CheckRefusal}
@@ -26,25 +26,32 @@ use Rattle.cache_chain.specs.declared.refusals.StartRefusal.{StartRefusal}
 use Rattle.cache_chain.specs.declared.refusals.StartRefusal.TheVariants as starts
 use Rattle.cache_chain.specs.Refusals.{base_size, NamesBudget, NamesChange, HasReason}
 use Rattle.std.specs.Option.{option_and_then}
-use Rattle.view_outside.specs.Faults.{Rose-earlier}
+use Rattle.view_outside.specs.Faults.{Rose, Rose-earlier}
+use Rattle.view_outside.specs.OnlyRead.{OnlyIf}
+use Rattle.view_outside.specs.Streams.{appended}
+use Rattle.view_outside.specs.Written.{WritesPart}
 use Rattle.view_outside.specs.Files.{Named, number_named, bytes_at, file_bytes, Finds}
-use Rattle.view_outside.specs.Taken.{taken_after}
+use Rattle.script_model.specs.declared.limits.TheConstants.{MOST_SCRIPT}
 use Rattle.script_model.specs.declared.modes.Mode.TheVariants.{Play}
 use Rattle.script_model.specs.declared.orders.Line.{Line}
 use Rattle.script_model.specs.Scripts.{script_in}
 use Rattle.view_script.specs.declared.refusals.ScriptRefusal.{ScriptRefusal}
 use Rattle.view_script.specs.declared.refusals.ScriptRefusal.TheVariants as scripts
-use Rattle.view_script.specs.Answers.{Refuses}
+use Rattle.view_script.specs.Answers.{Refuses, IfJudged}
+use Rattle.view_script.specs.Reads.{ReadsThrough}
 use Rattle.view_machine.specs.LineCounts.{TellsBodies}
-use Rattle.view_machine.specs.ToldBodies.{lists_said, said_bodies, told_bodies}
+use Rattle.view_machine.specs.ToldBodies.{lists_said, said_bodies}
 use Rattle.run_model.specs.PrintedFrames.{told_file}
 use Rattle.run_model.specs.Worlds.{World}
 use Rattle.text_model.specs.declared.statuses.Status.{Status}
 use Rattle.text_model.specs.declared.statuses.Status.TheVariants as statuses
 use Rattle.viewer_program.specs.Answers.{IsRefusalOf}
+use Rattle.viewer_program.specs.Endings.{IsChange}
+use Rattle.viewer_program.specs.Loading.{TakesLess, HasLoaded, HasGiven, StopsLoading}
+use Rattle.viewer_program.specs.Outside.{StoreSeen, OutsideSeen}
 use Rattle.viewer_program.specs.Playing.{PlaySeen, IsPlay}
 use Rattle.viewer_program.specs.PlayRuns.{play_world, IsWorldOver, IsWorldOf, HoldsBase, IsSetUp}
-use Rattle.viewer_program.specs.PlayEnds.{StoreCounts, RunEnds, PlayEnds, FailsToRead, IsBeforeScript}
+use Rattle.viewer_program.specs.PlayEnds.{StoreCounts, counts_of, RunsPart, RunEnds, IsUntouched, PlaysPart, PlayEnds}
 use Rattle.viewer_program.specs.Told.{named_bytes}
 use Rattle.viewer_program.specs.Refusals.{check_status, start_status, script_status}
 use Rattle.viewer_program.proofs.TakenLemmas.{takes_base}
@@ -164,86 +171,117 @@ holds_base w given P is large other =
       | inr more ↦ record { fits = subst (λ (n : ℕ). base_size w.mesh ≤ n) is more }
     ]
 
-module _ (play : PlaySeen) (told rest : Option (List ℕ)) (counts : StoreCounts) (before : Option (List ℕ)) where
-  refusal_told : (refusal : Refusal) → (bytes : List ℕ) → Checks bytes (Err (checks.Refused refusal)) → IsRefusalOf bytes refusal
-  refusal_told (File fault) bytes is = is
-  refusal_told (Dag fault) bytes is = is
+refusal_told : (refusal : Refusal) → (bytes : List ℕ) → Checks bytes (Err (checks.Refused refusal)) → IsRefusalOf bytes refusal
+refusal_told (File fault) bytes is = is
+refusal_told (Dag fault) bytes is = is
 
-  refused_told : (found : Option (List ℕ)) (refusal : Refusal) → IfSome found (λ (bytes : List ℕ). Checks bytes (Err (checks.Refused refusal))) → IfSome found (λ (bytes : List ℕ). IsRefusalOf bytes refusal)
-  refused_told None refusal is = tt
-  refused_told (Some bytes) refusal is = refusal_told refusal bytes is
+refused_told : (found : Option (List ℕ)) (refusal : Refusal) → IfSome found (λ (bytes : List ℕ). Checks bytes (Err (checks.Refused refusal))) → IfSome found (λ (bytes : List ℕ). IsRefusalOf bytes refusal)
+refused_told None refusal is = tt
+refused_told (Some bytes) refusal is = refusal_told refusal bytes is
+
+module _ (play : PlaySeen) (name : List ℕ) (before after : StoreSeen) where
+  abbrev told : Option (List ℕ)
+  told = named_bytes before.files name
 
   -- a check that gives no mesh
-  pub check_ends : (refusal : CheckRefusal) → IfSome told (λ (bytes : List ℕ). Checks bytes (Err refusal)) → PlayEnds play told rest counts (check_status refusal) before before
-  check_ends (checks.Refused refusal) is = (refused_told told refusal is, refl)
-  check_ends checks.ReadFault is = refl
-  check_ends checks.Memory is = inl refl
+  pub check_stops : (refusal : CheckRefusal) → IfSome told (λ (bytes : List ℕ). Checks bytes (Err refusal)) → OnlyIf checks.ReadFault (TakesLess told before.taken after.taken) refusal → OnlyIf checks.ReadFault (Rose before.faults after.faults) refusal
+      → StopsLoading play name before after (check_status refusal)
+  check_stops (checks.Refused refusal) is cut rose = refused_told told refusal is
+  check_stops checks.ReadFault is cut rose = record { failed = λ named. rose refl; less = cut refl }
+  check_stops checks.Memory is cut rose = tt
 
   -- tiers that don't open
-  pub start_ends : (mesh : MeshSeen) (refusal : StartRefusal) → IsWorldOf play told (play_world mesh.lists told play) → IfSome told (λ (bytes : List ℕ). Checks bytes (Ok mesh))
+  pub start_stops : (mesh : MeshSeen) (refusal : StartRefusal) (now : StoreSeen) → HasGiven (file_size mesh.lists.index) before now → IsWorldOf play told (play_world mesh.lists told play) → IfSome told (λ (bytes : List ℕ). Checks bytes (Ok mesh))
       → (slice_index play.budgets 0 < base_size mesh.lists → refusal ≡ starts.Budget (base_size mesh.lists) (slice_index play.budgets 0)) → NamesBudget (base_size mesh.lists) (slice_index play.budgets 0) refusal
-      → IfSome told (λ (bytes : List ℕ). NamesChange mesh.lists.index bytes (outgoing mesh.lists.index.fields mesh.lists.root) refusal) → PlayEnds play told rest counts (start_status refusal) before before
-  start_ends mesh (starts.Budget need given) world checked large (needs, gives, less) change =
-      (record { world = play_world mesh.lists told play; of_words = world; needs = needs; gives = gives; less = rw (needs, gives) less }, refl)
-  start_ends mesh (starts.Changed patch fault) world checked large budget change = (
-    record {
-      untold = no_change_told told mesh (outgoing mesh.lists.index.fields mesh.lists.root) patch fault checked change;
+      → IfSome told (λ (bytes : List ℕ). NamesChange mesh.lists.index bytes (outgoing mesh.lists.index.fields mesh.lists.root) refusal) → HasReason (base_size mesh.lists) now.faults after.faults now.taken after.taken refusal
+      → StopsLoading play name before after (start_status refusal)
+  start_stops mesh (starts.Budget need given) now gave world checked large (needs, gives, less) change reason =
+      record { world = play_world mesh.lists told play; of_words = world; needs = needs; gives = gives; less = rw (needs, gives) less }
+  start_stops mesh (starts.Changed patch fault) now gave world checked large budget change reason = record {
+    untold = no_change_told told mesh (outgoing mesh.lists.index.fields mesh.lists.root) patch fault checked change;
+    can = record {
       world = play_world mesh.lists told play;
       of_words = world;
       holds = holds_base (play_world mesh.lists told play) (slice_index play.budgets 0) (starts.Changed patch fault ≡ starts.Budget (base_size mesh.lists) (slice_index play.budgets 0)) refl large (λ same. cc);
-    },
-    refl,
-  )
-  start_ends mesh starts.ReadFault world checked large budget change = refl
-  start_ends mesh starts.Memory world checked large budget change = inl refl
+    };
+  }
+  start_stops mesh starts.ReadFault now gave world checked large budget change (rose, rises) = record {
+    failed = λ named. Rose-earlier before.faults now.faults after.faults gave.later rose;
+    less = takes_base told mesh before.taken now.taken after.taken checked gave.taken rises;
+  }
+  start_stops mesh starts.Memory now gave world checked large budget change reason = tt
+
+-- a play that stops so has written nothing and read no script
+pub stopped_ends : (play : PlaySeen) (name : List ℕ) (before after : OutsideSeen) (status : Status) → IsUntouched before after → StopsLoading play name before.store after.store status → PlayEnds play name before after status
+stopped_ends play name before after statuses.Ok untouched stops = absurd stops
+stopped_ends play name before after statuses.WriteFault untouched stops = absurd stops
+stopped_ends play name before after statuses.Memory untouched stops = inl untouched
+stopped_ends play name before after statuses.Usage untouched stops = absurd stops
+stopped_ends play name before after (statuses.Refused refusal) untouched stops = (untouched, stops)
+stopped_ends play name before after statuses.ReadFault untouched stops = inl (untouched, stops)
+stopped_ends play name before after (statuses.Script fault) untouched stops = absurd stops
+stopped_ends play name before after (statuses.Budget need given) untouched stops = (untouched, stops)
+stopped_ends play name before after (statuses.Changed patch fault) untouched stops = (untouched, stops)
+stopped_ends play name before after (statuses.Wide patch) untouched stops = absurd stops
+
+module _ (play : PlaySeen) (name : List ℕ) (before after : OutsideSeen) where
+  abbrev named : Option (List ℕ)
+  named = named_bytes before.store.files name
 
   -- a script that can't be read
-  pub script_ends : (w : World) (refusal : ScriptRefusal) → IsWorldOf play told w → HoldsBase w → IfSome rest (λ (bytes : List ℕ). Refuses refusal (script_in Play (length play.budgets) bytes)) → PlayEnds play told rest counts (script_status refusal) before before
-  script_ends w (scripts.Script fault) world holds said = (record { world = w; of_words = world; holds = holds; faulty = said }, refl)
-  script_ends w scripts.ReadFault world holds said = refl
-  script_ends w scripts.Memory world holds said = inl refl
+  pub script_ends : (refusal : ScriptRefusal) → HasLoaded play named before.store after.store → IfSome before.source.rest (λ (bytes : List ℕ). Refuses refusal (script_in Play (length play.budgets) bytes))
+      → IfJudged (ReadsThrough (MOST_SCRIPT + 1) before.source.rest after.source.rest) refusal → OnlyIf scripts.ReadFault (Rose before.source.faults after.source.faults) refusal → after.sink.written ≡ before.sink.written
+      → PlayEnds play name before after (script_status refusal)
+  script_ends (scripts.Script fault) loaded said through rose written = record { loaded = loaded; faulty = said; through = through; written = written }
+  script_ends scripts.ReadFault loaded said through rose written = inr (record { loaded = loaded; failed = rose refl; written = written })
+  script_ends scripts.Memory loaded said through rose written = inr (inl (record { can = loaded.can; written = written }))
 
--- a run
-pub run_ends : (play : PlaySeen) (told rest : Option (List ℕ)) (counts : StoreCounts) (before after : Option (List ℕ)) (w : World) (lines : List Line) (status : Status) → IsSetUp play told rest w lines → RunEnds w lines (file_size w.mesh.index + base_size w.mesh) counts status before after → PlayEnds play told rest counts status before after
-run_ends play told rest counts before after w lines statuses.Ok set_up ends = record { world = w; lines = lines; set_up = set_up; is = ends }
-run_ends play told rest counts before after w lines statuses.WriteFault set_up ends = record { world = w; lines = lines; set_up = set_up; is = ends }
-run_ends play told rest counts before after w lines statuses.Memory set_up (inl none) = inl none
-run_ends play told rest counts before after w lines statuses.Memory set_up (inr part) = inr (record { world = w; lines = lines; set_up = set_up; is = part })
-run_ends play told rest counts before after w lines statuses.Usage set_up ends = absurd ends
-run_ends play told rest counts before after w lines (statuses.Refused refusal) set_up ends = absurd ends
-run_ends play told rest counts before after w lines statuses.ReadFault set_up ends = absurd ends
-run_ends play told rest counts before after w lines (statuses.Script fault) set_up ends = absurd ends
-run_ends play told rest counts before after w lines (statuses.Budget need given) set_up ends = absurd ends
-run_ends play told rest counts before after w lines (statuses.Changed patch fault) set_up ends = absurd ends
-run_ends play told rest counts before after w lines (statuses.Wide patch) set_up ends = absurd ends
+  played_part : (w : World) (lines : List Line) (is_written : List ℕ → Type 0) → IsSetUp play named before.source.rest w lines → ReadsThrough (MOST_SCRIPT + 1) before.source.rest after.source.rest
+      → RunsPart w lines (counts_of before.store.faults after.store.faults before.store.taken after.store.taken) is_written → PlaysPart play named before after is_written
+  played_part w lines is_written set_up through ran = record {
+    world = w;
+    lines = lines;
+    set_up = set_up;
+    through = through;
+    done = ran.done;
+    left = ran.left;
+    parts = ran.parts;
+    text = ran.text;
+    prints = ran.prints;
+    written = ran.written;
+  }
 
--- no run comes before its script, or can't read
-pub run_not_before : (w : World) (lines : List Line) (first : ℕ) (counts : StoreCounts) (before after : Option (List ℕ)) (status : Status) → RunEnds w lines first counts status before after → IsBeforeScript status → ⊥
-run_not_before w lines first counts before after statuses.Ok ends is = is
-run_not_before w lines first counts before after statuses.WriteFault ends is = is
-run_not_before w lines first counts before after statuses.Memory ends is = is
-run_not_before w lines first counts before after statuses.Usage ends is = ends
-run_not_before w lines first counts before after (statuses.Refused refusal) ends is = ends
-run_not_before w lines first counts before after statuses.ReadFault ends is = ends
-run_not_before w lines first counts before after (statuses.Script fault) ends is = ends
-run_not_before w lines first counts before after (statuses.Budget need given) ends is = ends
-run_not_before w lines first counts before after (statuses.Changed patch fault) ends is = ends
-run_not_before w lines first counts before after (statuses.Wide patch) ends is = ends
+  -- a run
+  pub run_ends : (w : World) (lines : List Line) (status : Status) → IsSetUp play named before.source.rest w lines → ReadsThrough (MOST_SCRIPT + 1) before.source.rest after.source.rest
+      → RunEnds w lines (file_size w.mesh.index + base_size w.mesh) (counts_of before.store.faults after.store.faults before.store.taken after.store.taken) status before.sink.written after.sink.written → PlayEnds play name before after status
+  run_ends w lines statuses.Ok set_up through ran = record { world = w; lines = lines; set_up = set_up; through = through; text = ran.text; prints = ran.prints; taken = ran.taken; written = ran.written }
+  run_ends w lines statuses.WriteFault set_up through ran = played_part w lines (WritesPart before.sink.written after.sink.written) set_up through ran
+  run_ends w lines statuses.Memory set_up through (inl none) = inr (inl (record { can = record { world = w; of_words = set_up.world; holds = set_up.holds }; written = none }))
+  run_ends w lines statuses.Memory set_up through (inr ran) = inr (inr (played_part w lines (λ (text : List ℕ). after.sink.written ≡ appended before.sink.written text) set_up through ran))
+  run_ends w lines statuses.Usage set_up through ran = absurd ran
+  run_ends w lines (statuses.Refused refusal) set_up through ran = absurd ran
+  run_ends w lines statuses.ReadFault set_up through ran = absurd ran
+  run_ends w lines (statuses.Script fault) set_up through ran = absurd ran
+  run_ends w lines (statuses.Budget need given) set_up through ran = absurd ran
+  run_ends w lines (statuses.Changed patch fault) set_up through ran = absurd ran
+  run_ends w lines (statuses.Wide patch) set_up through ran = absurd ran
 
-pub run_not_unread : (w : World) (lines : List Line) (first : ℕ) (counts : StoreCounts) (before after : Option (List ℕ)) (status : Status) → RunEnds w lines first counts status before after → status ≡ statuses.ReadFault → ⊥
-run_not_unread w lines first counts before after status ends is = subst (λ (s : Status). RunEnds w lines first counts s before after) is ends
+-- no run finds that its file changed
+pub run_no_change : (w : World) (lines : List Line) (first : ℕ) (counts : StoreCounts) (before after : Option (List ℕ)) (status : Status) → RunEnds w lines first counts status before after → IsChange status
+run_no_change w lines first counts before after statuses.Ok ran = tt
+run_no_change w lines first counts before after statuses.WriteFault ran = tt
+run_no_change w lines first counts before after statuses.Memory ran = tt
+run_no_change w lines first counts before after statuses.Usage ran = tt
+run_no_change w lines first counts before after (statuses.Refused refusal) ran = tt
+run_no_change w lines first counts before after statuses.ReadFault ran = tt
+run_no_change w lines first counts before after (statuses.Script fault) ran = tt
+run_no_change w lines first counts before after (statuses.Budget need given) ran = tt
+run_no_change w lines first counts before after (statuses.Changed patch fault) ran = absurd ran
+run_no_change w lines first counts before after (statuses.Wide patch) ran = tt
 
-pub play_not_usage : (play : PlaySeen) (told rest : Option (List ℕ)) (counts : StoreCounts) (before after : Option (List ℕ)) (status : Status) → PlayEnds play told rest counts status before after → status ≡ statuses.Usage → ⊥
-play_not_usage play told rest counts before after status ends is = subst (λ (s : Status). PlayEnds play told rest counts s before after) is ends
-
--- why tiers that didn't open could not be read
-pub start_unread : (told : Option (List ℕ)) (mesh : MeshSeen) (counts : StoreCounts) (faults taken source source_now : ℕ) (refusal : StartRefusal) → IfSome told (λ (bytes : List ℕ). Checks bytes (Ok mesh)) → counts.faults ≤ faults → taken ≡ taken_after counts.taken (file_size mesh.lists.index)
-    → HasReason (base_size mesh.lists) faults counts.faults_now taken counts.taken_now refusal → start_status refusal ≡ statuses.ReadFault → FailsToRead told counts source source_now
-start_unread told mesh counts faults taken source source_now (starts.Budget need given) checked later took reason is = absurd cc
-start_unread told mesh counts faults taken source source_now (starts.Changed patch fault) checked later took reason is = absurd cc
-start_unread told mesh counts faults taken source source_now starts.Memory checked later took reason is = absurd cc
-start_unread told mesh counts faults taken source source_now starts.ReadFault checked later took (rose, rises) is =
-    inl (Rose-earlier counts.faults faults counts.faults_now later rose, takes_base told mesh counts.taken taken counts.taken_now checked took rises)
+-- a play is a command
+pub play_not_usage : (play : PlaySeen) (name : List ℕ) (before after : OutsideSeen) (status : Status) → PlayEnds play name before after status → status ≡ statuses.Usage → ⊥
+play_not_usage play name before after status ends is = subst (λ (s : Status). PlayEnds play name before after s) is ends
 
 -- ---- the file of the name
 

@@ -1,5 +1,5 @@
 -- How much a store gave of an accepted file before it failed.
-use Rattle.std.proofs.Common.{◌≡◌, ℕ, zero, suc, ◌+◌, ◌*◌, ◌<◌, ◌≤◌, Bool, true, false, leb, not, List, [], ◌∷◌, length, take, drop, Option, Some, None, Result, Ok, Err, refl, sym, ap, subst, ◌∙◌, arith}
+use Rattle.std.proofs.Common.{◌≡◌, ℕ, zero, suc, ◌+◌, ◌*◌, ◌≤◌, Bool, true, false, leb, not, List, [], ◌∷◌, length, take, drop, Option, Some, None, Result, Ok, refl, sym, ap, subst, ◌∙◌, arith}
 use Rattle.std.specs.Prelude.{slice_get, option_map, unwrap_or, sum_by, ◌==◌, ◌||◌, IfSome, IsTrue, if◌then◌else◌}
 use Rattle.std.specs.List.{list_all, list_any}
 use Rattle.std.proofs.lemmas.Bool.{and_parts, leb-true, eq-eqb, not-false}
@@ -9,10 +9,10 @@ use Rattle.file_model.specs.declared.fields.PatchField.{PatchField}
 use Rattle.file_model.specs.declared.limits.TheConstants.{MOST_IN_PATCH}
 use Rattle.file_model.specs.Lists.{IndexLists, FileLists, body_size, bodies_size, bodies_offset}
 use Rattle.file_model.specs.Reading.{◌>>=◌, Header, header_in, node_at, field_at, many_at, fields_size, fields_in, index_in, bodies_in, end_in, file_in, file_size}
-use Rattle.file_model.specs.Rules.{IsIndex, IsPatchFile, is_between, has_ends, has_counts, is_field}
+use Rattle.file_model.specs.Rules.{IsPatchFile, is_between, has_ends, has_counts, is_field}
 use Rattle.file_laws.specs.Steps.{step_ok, ok_is}
 use Rattle.file_laws.specs.Files.{length-file_text, file_in-text, same_file}
-use Rattle.mesh_model.specs.Graph.{leads_from, is_sink, patches_from, outgoing}
+use Rattle.mesh_model.specs.Graph.{leads_from, patches_from, outgoing}
 use Rattle.mesh_model.specs.Accepted.{IsNestedGraph, IsAccepted}
 use Rattle.accepted_mesh.specs.MeshView.{MeshSeen}
 use Rattle.dag_check.specs.Checks.{Checks}
@@ -21,7 +21,7 @@ use Rattle.frame_laws.specs.Bases.{base_is_cut}
 use Rattle.view_outside.specs.Taken.{RisesBelow, RisesAtMost, taken_after, taken_after-zero, taken_after-taken_after}
 use Rattle.body_loads.specs.Loads.{size_at, sizes_sum}
 use Rattle.patch_file.specs.Taking.{announced_size, index_size}
-use Rattle.viewer_program.specs.PlayEnds.{TakesLess}
+use Rattle.viewer_program.specs.Loading.{TakesLess}
 
 -- ---- the bodies of the base patches have bytes
 

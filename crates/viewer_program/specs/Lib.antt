@@ -4,10 +4,14 @@ pub mod Answers
 pub mod Refusals
 pub mod Endings
 pub mod Told
+pub mod Outside
 pub mod Numbered
+pub mod Telling
 pub mod Strips
 pub mod Outputs
 pub mod Playing
 pub mod Promises
 pub mod PlayRuns
+pub mod Loading
 pub mod PlayEnds
+pub mod StillEnds

@@ -7,6 +7,7 @@ mod commands;
 mod converts;
 mod faults;
 mod meshes;
+mod opening;
 mod outputs;
 mod playing;
 mod plays;
@@ -14,15 +15,15 @@ mod refusals;
 mod run;
 mod statuses;
 mod strips;
+mod telling;
 #[cfg(test)]
 mod tests;
 mod words;
 
 use run::run_still;
-use statuses::{plain_line, status_code, status_text};
 use std::alloc::AllocError;
-use std::io::Write;
 use std::process::ExitCode;
+use telling::tell;
 use text_model::Status;
 use view_outside::{FolderStore, ReadAhead, StdSink, StdSource};
 use words::program_words;
@@ -39,21 +40,7 @@ fn run_program(rt: &HostRuntime) -> Result<Status, AllocError> {
     Ok(run_still(rt.alloc(), &words, &mut store, &mut script, &mut sink))
 }
 
-// Writes the status as one line to standard error. Where that fails, or there is no memory for its numbers,
-// the code still tells it.
-fn tell(rt: &HostRuntime, status: &Status) {
-    if let Some(line) = plain_line(status) {
-        let _ = rt.stderr().write_all(line.as_bytes());
-        return;
-    }
-    let mut line = Vec::new(rt.alloc());
-    if status_text(rt.alloc(), status, &mut line).is_ok() {
-        let _ = rt.stderr().write_all(&line);
-    }
-}
-
 fn main(rt: HostRuntime) -> ExitCode {
     let status = run_program(&rt).unwrap_or(Status::Memory);
-    tell(&rt, &status);
-    ExitCode::from(status_code(&status))
+    ExitCode::from(tell(rt.alloc(), &status, &mut StdSink::new(rt.stderr())))
 }

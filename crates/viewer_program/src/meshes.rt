@@ -8,7 +8,7 @@ ghost use Rattle.view_outside.specs.Taken.{taken_after};
 ghost use Rattle.mesh_model.specs.Meshes.{IsMesh};
 ghost use Rattle.dag_check.specs.Checks.{Checks};
 ghost use Rattle.dag_check.specs.declared.refusals.CheckRefusal.TheVariants as checks;
-ghost use Rattle.viewer_program.specs.PlayEnds.{TakesLess};
+ghost use Rattle.viewer_program.specs.Loading.{TakesLess};
 
 use dag_check::{CheckRefusal, Mesh, check};
 use patch_file::read_index;

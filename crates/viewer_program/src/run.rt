@@ -1,18 +1,17 @@
 //! The commands, from their words to their status.
 
-ghost use Rattle.std.specs.Prelude.{◌≡◌, ◌↔◌, ◌+◌, map, string_bytes, IfSome, IsNone, OnErr};
+ghost use Rattle.std.specs.Prelude.{◌≡◌, ◌↔◌, map, string_bytes, IfSome, IsNone, OnErr};
 ghost use Rattle.text_model.specs.declared.statuses.Status.TheVariants.{Usage, ReadFault, WriteFault};
 ghost use Rattle.view_outside.specs.Faults.{Rose};
 ghost use Rattle.view_outside.specs.Files.{HasName, LacksName};
 ghost use Rattle.view_outside.specs.OnlyRead.{OnlyIf};
 ghost use Rattle.view_outside.specs.Written.{Wrote};
-ghost use Rattle.view_script.specs.Reads.{ReadsAtMost, ReadsThrough};
-ghost use Rattle.viewer_program.specs.Commands.{command_in, name_in, IsKnown};
+ghost use Rattle.viewer_program.specs.Commands.{IsKnown};
 ghost use Rattle.viewer_program.specs.Answers.{IsTextOf, IsOfAccepted, IsTextOfKind};
 ghost use Rattle.viewer_program.specs.Endings.{StopsAt, CanStop, Ends, IsChange, IsQuiet};
 ghost use Rattle.viewer_program.specs.Outputs.{output_text, IsWritable};
-ghost use Rattle.viewer_program.specs.Playing.{play_in};
-ghost use Rattle.viewer_program.specs.PlayEnds.{PlayEnds, counts_of, FailsToRead, IsBeforeScript, IsBehindScript};
+ghost use Rattle.viewer_program.specs.Outside.{outside_seen};
+ghost use Rattle.viewer_program.specs.StillEnds.{StillEnds};
 ghost use Rattle.viewer_program.specs.Strips.{strip_command_in, IsStripOutput, IsForMemory};
 ghost use Rattle.viewer_program.specs.Told.{named_bytes};
 
@@ -25,7 +24,6 @@ use patch_file::write_file;
 use std::alloc::Global;
 use text_model::Status;
 use view_outside::{Sink, Source, Store, write_all};
-use view_script::MOST_SCRIPT;
 
 // Writes all that a command writes, or a proper beginning where the sink fails.
 fn write_output<O: Sink>(output: &Output, sink: &mut O) -> Result<(), view_outside::WriteFault>
@@ -82,9 +80,10 @@ fn run_without_file<O: Sink>(alloc: Global, words: &[String], sink: &mut O) -> S
     ensures makes { IfSome (strip_command_in (map string_bytes words.now))
         (λ command. Ends (IsStripOutput command) IsForMemory result (O.written sink.old)
         (O.written sink.new)) }
+    ensures idle { result ≡ Usage
+        → (O.written sink.new ≡ O.written sink.old) × (O.faults sink.new ≡ O.faults sink.old) }
     ensures changed { IsChange result }
     ensures quiet { IsQuiet result (O.written sink.old) (O.written sink.new) }
-    ensures read { result ≡ ReadFault → ⊥ }
     ensures write_fault { OnlyIf WriteFault (Rose (O.faults sink.old) (O.faults sink.new)) result }
 {
     match strip_command_of(words) {
@@ -103,74 +102,12 @@ pub fn run_still<S: Store, I: Source, O: Sink>(
     script: &mut I,
     sink: &mut O,
 ) -> Status
-    // The words are no command exactly where the status is Usage.
-    ensures usage { (result ≡ Usage)
-        ↔ (IsNone (command_in (map string_bytes words.now))
-        × IsNone (play_in (map string_bytes words.now))
-        × IsNone (strip_command_in (map string_bytes words.now))) }
-    // What each status means where the store tells the bytes of the named file.
-    ensures told { IfSome (command_in (map string_bytes words.now))
-        (λ command.
-        IfSome (named_bytes (S.files store.old) (name_in (map string_bytes words.now)))
-        (λ bytes.
-        Ends (IsOfAccepted (IsTextOf command) bytes) (StopsAt command bytes) result
-        (O.written sink.old) (O.written sink.new))) }
-    // Which statuses a row can have whatever the store tells. What it writes is a text of its kind.
-    ensures statuses { IfSome (command_in (map string_bytes words.now))
-        (λ command.
-        Ends (IsTextOfKind command) (CanStop command) result (O.written sink.old)
-        (O.written sink.new)) }
-    // What each status of a play means, whatever the store and the source tell.
-    ensures plays { IfSome (play_in (map string_bytes words.now))
-        (λ play.
-        PlayEnds play
-        (named_bytes (S.files store.old) (name_in (map string_bytes words.now)))
-        (I.rest script.old)
-        (counts_of (S.faults store.old) (S.faults store.new) (S.taken store.old)
-        (S.taken store.new)) result (O.written sink.old) (O.written sink.new)) }
-    // A change is told with a fault that the patch's body can have.
-    ensures changed { IsChange result }
-    // A strip's file or a bench summary is written whole, but for a sink that fails and for want of memory,
-    ensures makes { IfSome (strip_command_in (map string_bytes words.now))
-        (λ command. Ends (IsStripOutput command) IsForMemory result (O.written sink.old)
-        (O.written sink.new)) }
-    // and the store isn't asked for it.
-    ensures alone { IfSome (strip_command_in (map string_bytes words.now)) (λ _.
-        (S.files store.new ≡ S.files store.old) × (S.faults store.new ≡ S.faults store.old)) }
-    // The script is left as it was, but by a play,
-    ensures script { IsNone (play_in (map string_bytes words.now))
-        → (I.rest script.new ≡ I.rest script.old) × (I.faults script.new ≡ I.faults script.old) }
-    // which reads it once the base is loaded,
-    ensures unread { IsBeforeScript result
-        → (I.rest script.new ≡ I.rest script.old) × (I.faults script.new ≡ I.faults script.old) }
-    // at most to one byte past the most that a script has,
-    ensures reads { ReadsAtMost (MOST_SCRIPT + 1) (I.rest script.old) (I.rest script.new) }
-    // and so far, or to its end, before a line runs or a fault is told.
-    ensures through { IfSome (play_in (map string_bytes words.now))
-        (λ _. IsBehindScript result
-        → ReadsThrough (MOST_SCRIPT + 1) (I.rest script.old) (I.rest script.new)) }
-    // Nothing is written but where the status is Ok or WriteFault, or in a play.
-    ensures quiet { IsNone (play_in (map string_bytes words.now))
-        → IsQuiet result (O.written sink.old) (O.written sink.new) }
-    // A read fault comes only where the store failed, or tells that it has no file of that name,
-    ensures read_fault { IsNone (play_in (map string_bytes words.now))
-        → OnlyIf ReadFault
-        (HasName (S.files store.old) (name_in (map string_bytes words.now))
-        → Rose (S.faults store.old) (S.faults store.new)) result }
-    // in a play also where the source failed, and else before the file and the base were given,
-    ensures play_fault { IfSome (play_in (map string_bytes words.now))
-        (λ _. OnlyIf ReadFault
-        (HasName (S.files store.old) (name_in (map string_bytes words.now))
-        → FailsToRead (named_bytes (S.files store.old) (name_in (map string_bytes words.now)))
-        (counts_of (S.faults store.old) (S.faults store.new) (S.taken store.old)
-        (S.taken store.new)) (I.faults script.old) (I.faults script.new)) result) }
-    // and where there is no such file it always comes.
-    ensures missing { IfSome (command_in (map string_bytes words.now)) (λ _.
-        LacksName (S.files store.old) (name_in (map string_bytes words.now)) → result ≡ ReadFault) }
-    ensures missing_play { IfSome (play_in (map string_bytes words.now)) (λ _.
-        LacksName (S.files store.old) (name_in (map string_bytes words.now)) → result ≡ ReadFault) }
-    // A write fault comes only where the sink failed.
-    ensures write_fault { OnlyIf WriteFault (Rose (O.faults sink.old) (O.faults sink.new)) result }
+    ensures { StillEnds (map string_bytes words.now)
+        (outside_seen (S.files store.old) (S.faults store.old) (S.taken store.old)
+        (I.rest script.old) (I.faults script.old) (O.written sink.old) (O.faults sink.old))
+        (outside_seen (S.files store.new) (S.faults store.new) (S.taken store.new)
+        (I.rest script.new) (I.faults script.new) (O.written sink.new) (O.faults sink.new))
+        result }
 {
     match command_of(words) {
         Some(command) => run_command(alloc, &command, file_name(words), store, sink),
