@@ -26,7 +26,8 @@ use Rattle.run_model.specs.Worlds.{World}
 use Rattle.run_model.specs.States.{State}
 use Rattle.run_model.specs.Lines.{Did, DidOpen, DidView, Does}
 use Rattle.run_model.specs.RunTexts.{IsOpening}
-use Rattle.session_seats.specs.Seats.{SeatsSeen, SessionTold, session_told, just_opened, told_view, told_at, at_seat, IsOpen, HasView}
+use Rattle.session_seats.specs.Seats.{SeatsSeen, told_at, at_seat, IsOpen, HasView}
+use Rattle.session_model.specs.Told.{SessionTold, session_told, just_opened, told_view}
 use Rattle.view_machine.specs.FrameLines.{place_then}
 use Rattle.view_machine.specs.LineEnds.{frames_at}
 use Rattle.view_machine.specs.LineTells.{DoesLine}

@@ -9,7 +9,6 @@ pub mod BodyLaws
 pub mod TurnLaws
 pub mod SafeLaws
 pub mod OpeningLaws
-pub mod Freeing
 pub mod Lines
 pub mod LineTexts
 pub mod RunTexts

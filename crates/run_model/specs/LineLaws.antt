@@ -1,5 +1,5 @@
 -- What a line does is a list of events.
-use Rattle.std.proofs.Common.{◌≡◌, ℕ, zero, suc, Bool, true, false, cond, List, length, Option, Some, None, is_some, refl, sym, ap, subst, ◌∙◌}
+use Rattle.std.proofs.Common.{◌≡◌, ℕ, zero, suc, false, cond, List, length, Option, Some, None, is_some, refl, ap, subst, ◌∙◌}
 use Rattle.script_model.specs.declared.orders.Order.{Order}
 use Rattle.session_model.specs.Sessions.{SessionState, uses, printed_once}
 use Rattle.tier_model.specs.declared.turns.Turn.{Turn}
@@ -9,9 +9,9 @@ use Rattle.run_model.specs.Worlds.{World}
 use Rattle.run_model.specs.States.{State, seated, posting}
 use Rattle.run_model.specs.Events.{Happens, Steps, Turns, Opens, Views, TakesOff, Prints, Ends, Reaches, Stays, Then}
 use Rattle.run_model.specs.SeatLaws.{put_here}
-use Rattle.run_model.specs.Freeing.{FreesAll}
-use Rattle.run_model.specs.Lines.{Did, IdlesTo, LastTurn, MoreTurns, SettlesTo, AllSettled, TierSettles, taken_off, Does, DoesOpen, DoesView, DoesStep, DoesFrame, DoesFree, DoesClose, DoesTurn, DoesSettle, DoesStatus, Runs, NoLine, OneLine}
-use Rattle.run_model.specs.SessionReach.{reaches_both, reaches_one, reaches_then, seat_twice, seat_then_post, seat_at, seat_posted, goes_nowhere, finishes_go, frees_reach, freed_has_no_use}
+use Rattle.run_model.specs.Lines.{Did, IdlesTo, LastTurn, MoreTurns, SettlesTo, AllSettled, TierSettles, Does, DoesOpen, DoesView, DoesStep, DoesFrame, DoesFree, DoesClose, DoesTurn, DoesSettle, DoesStatus, Runs, NoLine, OneLine}
+use Rattle.session_model.specs.FreeLaws.{freed_has_no_use}
+use Rattle.run_model.specs.SessionReach.{reaches_both, reaches_one, reaches_then, seat_twice, seat_then_post, seat_at, seat_posted, goes_nowhere, finishes_go, frees_reach}
 
 pub idles_reach : (w : World) (k : ℕ) (a b : State) (log : List (ℕ × Turn)) → IdlesTo w k a log b → Reaches w a b
 idles_reach w k a b _ (LastTurn turn) = reaches_one w a b (Turns k Idle turn)

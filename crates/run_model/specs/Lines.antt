@@ -21,7 +21,7 @@ use Rattle.token_words.specs.Sessions.{IsSession}
 use Rattle.run_model.specs.Worlds.{World, patch_count}
 use Rattle.run_model.specs.States.{State, posted_by, seated, posting}
 use Rattle.run_model.specs.Turning.{TurnsTo}
-use Rattle.run_model.specs.Freeing.{FreesAll}
+use Rattle.session_model.specs.Freeing.{FreesAll}
 
 -- ---- what a line did
 

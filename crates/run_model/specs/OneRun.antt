@@ -25,7 +25,7 @@ use Rattle.run_model.specs.Lines.{Did, DidOpen, DidView, DidStep, DidFrame, DidF
 use Rattle.run_model.specs.LineTexts.{IsTextOf, AreTextsOf, NoText, OneText}
 use Rattle.run_model.specs.RunTexts.{StoreOutcome, turn_outcome, turn_outcomes, outcomes_of, store_outcomes, IsOpening, orders_of, IsRunText}
 use Rattle.run_model.specs.BlankTiers.{blank_body, blank_bodies, blank}
-use Rattle.run_model.specs.Freeing.{FreesAll}
+use Rattle.session_model.specs.Freeing.{FreesAll}
 use Rattle.run_model.specs.BlankRuns.{blank_state, chain_with, blank_state_twice, blank_many, blank_does}
 use Rattle.run_model.specs.OneSession.{finishes_one, frees_one}
 use Rattle.run_model.specs.OneTurn.{same_blank, turn_one}

@@ -7,7 +7,7 @@ use Rattle.session_model.specs.declared.steps.Stepped.TheVariants.{Done}
 use Rattle.session_model.specs.Sessions.{SessionState}
 use Rattle.session_model.specs.Steps.{SessionStep, stepped, step_by, free_step}
 use Rattle.session_model.specs.Finishes.{Steps, NoStep, OneMore, Finishes}
-use Rattle.run_model.specs.Freeing.{FreesAll, NoUse, MoreUse, unlocks_in}
+use Rattle.session_model.specs.Freeing.{FreesAll, NoUse, MoreUse, unlocks_in}
 use Rattle.run_model.specs.SessionReach.{made_by}
 
 -- ---- until it is done

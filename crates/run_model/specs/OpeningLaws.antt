@@ -14,7 +14,7 @@ use Rattle.frame_laws.specs.Each.{each_then}
 use Rattle.frame_laws.specs.Ends.{HasEnds, each_has_ends}
 use Rattle.frame_laws.specs.Roots.{IsOnlyRoot, only_root_from_roots}
 use Rattle.session_model.specs.Arcs.{passes_at, is_from}
-use Rattle.session_model.specs.SessionStates.{none_left_over}
+use Rattle.session_model.specs.StateLaws.{none_left_over}
 use Rattle.tier_model.specs.Places.{is_marked}
 use Rattle.tier_model.specs.Tiers.{TierState, IsTier, base_marks}
 use Rattle.tier_model.specs.Changes.{fresh}

@@ -1,5 +1,5 @@
 -- Each frame that is printed shows a whole round of its session's view.
-use Rattle.std.proofs.Common.{◌≡◌, ℕ, zero, suc, ◌+◌, ◌⊎◌, Bool, true, false, ◌||◌, cond, List, [], ◌∷◌, ◌++◌, length, map, Option, Some, None, refl, sym, ap, subst, ◌∙◌, arith, inl, inr, length-append}
+use Rattle.std.proofs.Common.{◌≡◌, ℕ, suc, ◌+◌, Bool, true, false, ◌||◌, cond, List, [], ◌∷◌, ◌++◌, map, Option, Some, None, refl, sym, ap, subst, ◌∙◌, arith, inl, inr}
 use Rattle.std.specs.Prelude.{slice_get, slice_index_or, IfSome}
 use Rattle.std.specs.List.{AllByRecursion, flat_map}
 use Rattle.std.specs.Option.{option_map_or, unwrap_or}
@@ -9,25 +9,24 @@ use Rattle.grid_vertex.specs.declared.triangles.Triangle.{Triangle}
 use Rattle.file_model.specs.declared.fields.PatchField.{PatchField}
 use Rattle.file_model.specs.declared.fields.Try.{Try}
 use Rattle.file_model.specs.Lists.{BodyLists, SeenBody, FileLists, no_body, triangles_of}
-use Rattle.mesh_model.specs.Graph.{patches_from, patches_where}
+use Rattle.mesh_model.specs.Graph.{patches_from}
 use Rattle.mesh_model.specs.Frames.{triangles_where, leads_out}
-use Rattle.mesh_model.specs.Meshes.{MeshLists, IsMesh}
+use Rattle.mesh_model.specs.Meshes.{MeshLists}
 use Rattle.mesh_model.specs.Nets.{net}
 use Rattle.mesh_model.specs.Accepted.{IsAccepted}
-use Rattle.round_model.specs.declared.asks.Ask.TheVariants.{Lock, GiveBack, Done as NothingAsked}
+use Rattle.round_model.specs.declared.asks.Ask.TheVariants.{Done as NothingAsked}
 use Rattle.round_model.specs.Order.{Rules}
-use Rattle.round_model.specs.Rounds.{NodeInProgress, has, round_of, epochs_of, IsWhole}
-use Rattle.round_model.specs.Refiners.{Refining, round_state, next_try, next_ask, pending_ask, cut_of, cut_patches}
+use Rattle.round_model.specs.Rounds.{has, round_of, epochs_of, IsWhole}
+use Rattle.round_model.specs.Refiners.{Refining, round_state, pending_ask, cut_of, cut_patches}
 use Rattle.round_model.specs.Views.{ViewSeen, rules_of, view_rules}
 use Rattle.round_laws.specs.Among.{is_among}
 use Rattle.round_laws.specs.Cuts.{round_is_cut, round_boundary}
-use Rattle.round_laws.specs.Epochs.{round_epochs}
 use Rattle.session_model.specs.Arcs.{is_from, among_passing}
 use Rattle.script_model.specs.declared.orders.Order.{Order}
 use Rattle.session_model.specs.Locks.{round_locks}
-use Rattle.session_model.specs.Refinings.{IsRefining}
-use Rattle.session_model.specs.Sessions.{SessionState, is_left_over, locks}
-use Rattle.session_model.specs.SessionStates.{IsSessionState, IsRunning, running_mesh, rules_mesh}
+use Rattle.session_model.specs.Sessions.{SessionState, is_left_over}
+use Rattle.session_model.specs.StateLaws.{running_mesh}
+use Rattle.session_model.specs.WholeLaws.{round_is_whole}
 use Rattle.session_model.specs.DoneRounds.{HasDone}
 use Rattle.session_model.specs.FrameLocks.{frame_is_base_or_locked}
 use Rattle.session_model.specs.Finishes.{Finishes}
@@ -36,7 +35,7 @@ use Rattle.text_model.specs.ShownCuts.{ShowsCut}
 use Rattle.tier_model.specs.Tiers.{TierState}
 use Rattle.tier_model.specs.BodyLaws.{body_is_there}
 use Rattle.tier_model.specs.Chains.{Chain}
-use Rattle.run_model.specs.Worlds.{World, IsFileBody, IsWorld}
+use Rattle.run_model.specs.Worlds.{World, IsWorld}
 use Rattle.run_model.specs.States.{State}
 use Rattle.run_model.specs.Safe.{IsHeldAtTop, IsSafe}
 use Rattle.run_model.specs.SafeLaws.{events_keep_safe}
@@ -63,27 +62,9 @@ pub record ShowsRound (file : FileLists) (rules : Rules) (frame : Frame) : Type 
   pub tries : frame.tries ≡ (round_of rules epochs).tries
   pub shows : ShowsCut file rules.mesh.root (has (round_of rules epochs).set) frame
 
--- ---- a round that is done is whole
-
-nothing_left : (owed : List ℕ) (at : Option NodeInProgress) → next_ask owed at ≡ NothingAsked → at ≡ None
-nothing_left [] None is = refl
-nothing_left [] (Some hand) is = absurd (cc)
-nothing_left (p ∷ ps) at is = absurd (cc)
-
-nothing_behind : (front rest : List ℕ) → front ++ rest ≡ front → rest ≡ []
-nothing_behind front [] is = refl
-nothing_behind front (x ∷ xs) is = absurd (let longer = length-append front (x ∷ xs) in let same = ap length is in omega arith)
-
-done_is_whole : (r : Refining) → IsRefining r → pending_ask r ≡ NothingAsked → IsWhole (round_state r)
-unfolding pending_ask
-done_is_whole r refining done = record {
-  through = nothing_left r.owed (round_state r).at done;
-  used = nothing_behind (epochs_of r.tries) (round_state r).unused (subst (λ (tries : List Try). epochs_of tries ++ (round_state r).unused ≡ epochs_of r.tries) refining.tries (round_epochs r.rules (epochs_of r.tries)));
-}
-
 -- ---- the triangles of bodies that are the file's
 
-none_left : (test : PatchField → Bool) (fields : List PatchField) → triangles_where test fields [] ≡ []
+pub none_left : (test : PatchField → Bool) (fields : List PatchField) → triangles_where test fields [] ≡ []
 unfolding triangles_where
 none_left test [] = refl
 none_left test (f ∷ fs) = refl
@@ -164,7 +145,7 @@ module _ (w : World) (bodies : List BodyLists) (is_told : IsTold w bodies) where
         let triangles = chosen_triangles (leads_out in_cut) 0 (top_body c.chain.tiers) w.mesh.index.fields bodies (bodies_at c safe i t at there) in
         record {
           epochs = epochs_of tries;
-          whole = done_is_whole round refining done;
+          whole = round_is_whole round refining done;
           tries = sym refining.tries;
           shows = record {
             cut = round_is_cut (view_rules view w.mesh) refining.mesh (epochs_of tries);

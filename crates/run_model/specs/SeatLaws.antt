@@ -5,7 +5,8 @@ use Rattle.std.proofs.lemmas.Option.{same_Some}
 use Rattle.mesh_model.specs.Meshes.{MeshLists, IsMesh}
 use Rattle.session_model.specs.Sessions.{SessionState, locks, is_in_flight, uses, opened, with_view, printed_once}
 use Rattle.session_model.specs.Steps.{step, epoch_for, step_by, free_step}
-use Rattle.session_model.specs.SessionStates.{IsSessionState, opened_is, opened_uses}
+use Rattle.session_model.specs.SessionStates.{IsSessionState}
+use Rattle.session_model.specs.StateLaws.{opened_is, opened_uses}
 use Rattle.session_model.specs.NextStates.{IsNext, next_stepped, step_by_is_of_epochs, next_freed, next_viewed, next_printed}
 use Rattle.round_model.specs.Views.{ViewSeen}
 use Rattle.tier_model.specs.Ranks.{Posted}

@@ -1,19 +1,12 @@
 -- The steps of a line are events.
-use Rattle.std.proofs.Common.{◌≡◌, ℕ, Bool, true, false, ◌||◌, eqb, cond, List, Option, Some, None, refl, sym, ap, ap₂, subst, ◌∙◌}
+use Rattle.std.proofs.Common.{◌≡◌, ℕ, Bool, true, false, eqb, cond, List, Option, Some, refl, sym, ap, ap₂, subst, ◌∙◌}
 use Rattle.std.proofs.Math.Path.{fun_ext}
-use Rattle.std.specs.Option.{option_map_or, option_or, option_map}
-use Rattle.std.proofs.lemmas.Bool.{cond_both}
 use Rattle.mesh_model.specs.Meshes.{MeshLists}
-use Rattle.round_model.specs.declared.asks.Ask.{Ask}
-use Rattle.round_model.specs.declared.asks.Ask.TheVariants.{Lock, GiveBack, Done as NothingAsked}
 use Rattle.round_model.specs.Views.{ViewSeen}
-use Rattle.round_model.specs.Refiners.{Refining, pending_ask}
 use Rattle.session_model.specs.declared.steps.Stepped.{Stepped}
 use Rattle.session_model.specs.declared.steps.Stepped.TheVariants.{Done}
-use Rattle.session_model.specs.Locks.{round_locks}
-use Rattle.session_model.specs.Sessions.{SessionState, is_left_over, is_in_flight, uses, least_old, round_ended, settled}
-use Rattle.session_model.specs.Steps.{SessionStep, stepped, round_or_begun, after_try, answer_ask, go_on, unlock_or, withdraw_or, step, IsOfEpochs, step_by, free_old, free_or, free_step}
-use Rattle.session_model.specs.StepLaws.{none_old_in}
+use Rattle.session_model.specs.Sessions.{SessionState}
+use Rattle.session_model.specs.Steps.{SessionStep, stepped, step, IsOfEpochs, step_by, free_step}
 use Rattle.session_model.specs.NextStates.{is_step_by}
 use Rattle.session_model.specs.Finishes.{Steps, NoStep, OneMore, Finishes}
 use Rattle.tier_model.specs.Chains.{Chain}
@@ -23,7 +16,9 @@ use Rattle.run_model.specs.States.{State, put, seat_uses, seated, posting}
 use Rattle.run_model.specs.Events.{Happens, Frees, Reaches, Stays, Then}
 use Rattle.run_model.specs.Events.{Steps as SessionSteps}
 use Rattle.run_model.specs.SeatLaws.{put_here}
-use Rattle.run_model.specs.Freeing.{FreesAll, NoUse, MoreUse}
+use Rattle.session_model.specs.Freeing.{FreesAll, NoUse, MoreUse}
+use Rattle.session_model.specs.Told.{SessionTold}
+use Rattle.session_model.specs.ToldLaws.{told_step, told_steps, told_finishes}
 
 -- ---- events one after another
 
@@ -88,36 +83,14 @@ goes_on w a b i s t goes event = record {
 
 -- ---- a session keeps its view
 
-view_ask : (s : SessionState) (r : Refining) (epoch : ℕ) (ask : Ask) → (answer_ask s r epoch ask).state.view ≡ s.view
-unfolding after_try
-view_ask s r epoch (Lock p) = refl
-view_ask s r epoch (GiveBack p) = refl
-view_ask s r epoch NothingAsked = refl
-
-view_round : (s : SessionState) (epoch : ℕ) (round : Option Refining) → (go_on s epoch round).state.view ≡ s.view
-view_round s epoch (Some r) = view_ask s r epoch (pending_ask r)
-view_round s epoch None = refl
-
-view_old : (mesh : MeshLists) (s : SessionState) (epoch : ℕ) (old : Option ℕ) → (unlock_or mesh s epoch old).state.view ≡ s.view
-view_old mesh s epoch (Some p) = refl
-view_old mesh s epoch None = view_round s epoch (round_or_begun mesh s)
-
-view_settled : (s : SessionState) → (settled s).view ≡ s.view
-unfolding settled round_ended
-view_settled s = cond_both s.printed (round_ended s) s (λ (t : SessionState). t.view ≡ s.view) (λ printed. refl) (λ going. refl)
-
-view_flight : (mesh : MeshLists) (s : SessionState) (epoch : ℕ) (flight : Option ℕ) → (withdraw_or mesh s epoch flight).state.view ≡ s.view
-view_flight mesh s epoch (Some p) = refl
-view_flight mesh s epoch None = view_old mesh (settled s) epoch (least_old (settled s)) ∙ view_settled s
-
 pub step_view : (mesh : MeshLists) (s : SessionState) (epoch : ℕ) → (step mesh s epoch).state.view ≡ s.view
-unfolding step
-step_view mesh s epoch = view_flight mesh s epoch s.flight
+step_view mesh s epoch = ap (λ (told : SessionTold). told.view) (told_step mesh s epoch)
 
 pub steps_view : (mesh : MeshLists) (epochs : ℕ → ℕ) (s : SessionState) (tries : List (ℕ × ℕ)) (t : SessionState) → Steps mesh true epochs s tries t → t.view ≡ s.view
-steps_view mesh epochs s _ _ NoStep = refl
-steps_view mesh epochs s _ _ (OneMore tries t did epoch u steps same going of_epochs) =
-    ap (λ (x : SessionStep). x.state.view) same ∙ step_view mesh t epoch ∙ steps_view mesh epochs s tries t steps
+steps_view mesh epochs s tries t steps = ap (λ (told : SessionTold). told.view) (told_steps mesh true epochs s tries t steps)
+
+pub finishes_view : (mesh : MeshLists) (epochs : ℕ → ℕ) (s : SessionState) (tries : List (ℕ × ℕ)) (t : SessionState) → Finishes mesh true epochs s tries t → t.view ≡ s.view
+finishes_view mesh epochs s tries t finishes = ap (λ (told : SessionTold). told.view) (told_finishes mesh true epochs s tries t finishes)
 
 -- ---- steps of a frame
 
@@ -143,10 +116,6 @@ finishes_go w a i s view at viewed tries t finishes =
     let before = steps_go w a i s view at viewed tries finishes.last finishes.steps in
     (seated before.0 i (Some t), one_step_goes w a before.0 i finishes.last t Done view before.1 (steps_view w.mesh a.chain.epochs s tries finishes.last finishes.steps ∙ viewed) (made_by w.mesh a.chain.epochs finishes.last t Done finishes.epoch finishes.done tt))
 
-pub finishes_view : (mesh : MeshLists) (epochs : ℕ → ℕ) (s : SessionState) (tries : List (ℕ × ℕ)) (t : SessionState) → Finishes mesh true epochs s tries t → t.view ≡ s.view
-finishes_view mesh epochs s tries t finishes =
-    ap (λ (x : SessionStep). x.state.view) finishes.done ∙ step_view mesh finishes.last finishes.epoch ∙ steps_view mesh epochs s tries finishes.last finishes.steps
-
 -- ---- steps towards no use
 
 one_free : (w : World) (a b : State) (i : ℕ) (s : SessionState) → GoesTo w a i s b → GoesTo w a i (free_step s).state (seated b i (Some (free_step s).state))
@@ -155,21 +124,3 @@ one_free w a b i s goes = goes_on w a b i s (free_step s).state goes (Frees i s 
 pub frees_reach : (w : World) (a b : State) (i : ℕ) (s t : SessionState) (unlocks : ℕ) → GoesTo w a i s b → FreesAll s unlocks t → Reaches w a (seated a i (Some t))
 frees_reach w a b i s _ _ goes (NoUse none) = let last = one_free w a b i s goes in subst (Reaches w a) (goes.again (Some (free_step s).state)) last.reaches
 frees_reach w a b i s t _ goes (MoreUse {n = n} did is rest) = frees_reach w a (seated b i (Some (free_step s).state)) i (free_step s).state t n (one_free w a b i s goes) rest
-
--- a session that is as free as this has no use
-free_by_old : (s : SessionState) (p : ℕ) → s.flight ≡ None → (old : Option ℕ) → least_old (round_ended s) ≡ old → (free_old (round_ended s) old).did ≡ None → uses (free_old (round_ended s) old).state p ≡ false
-unfolding round_ended
-free_by_old s p none (Some q) e is = absurd (cc)
-free_by_old s p none None e is = rw none (rw (none_old_in (round_ended s) e p) refl)
-
-free_by_flight : (s : SessionState) (p : ℕ) (flight : Option ℕ) → s.flight ≡ flight → (free_or (round_ended s) flight).did ≡ None → uses (free_or (round_ended s) flight).state p ≡ false
-free_by_flight s p (Some q) e is = absurd (cc)
-free_by_flight s p None e is = free_by_old s p e (least_old (round_ended s)) refl is
-
-pub free_has_no_use : (s : SessionState) → (free_step s).did ≡ None → (p : ℕ) → uses (free_step s).state p ≡ false
-unfolding free_step
-free_has_no_use s is p = free_by_flight s p s.flight refl is
-
-pub freed_has_no_use : (s t : SessionState) (unlocks : ℕ) → FreesAll s unlocks t → (p : ℕ) → uses t p ≡ false
-freed_has_no_use s _ _ (NoUse none) p = free_has_no_use s none p
-freed_has_no_use s t _ (MoreUse {n = n} did is rest) p = freed_has_no_use (free_step s).state t n rest p

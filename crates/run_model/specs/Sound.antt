@@ -8,7 +8,8 @@ use Rattle.file_model.specs.Tries.{is_odd}
 use Rattle.round_model.specs.Refiners.{Refining}
 use Rattle.session_model.specs.Arcs.{from_within}
 use Rattle.session_model.specs.Sessions.{SessionState, is_left_over, locks}
-use Rattle.session_model.specs.SessionStates.{IsSessionState, locks_within}
+use Rattle.session_model.specs.SessionStates.{IsSessionState}
+use Rattle.session_model.specs.StateLaws.{locks_within}
 use Rattle.tier_model.specs.Places.{is_marked}
 use Rattle.tier_model.specs.Tiers.{TierState, count, is_held, load, IsTier}
 use Rattle.tier_model.specs.BodyLaws.{there_is_body, body_is_there, away_not_there}

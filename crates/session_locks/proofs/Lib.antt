@@ -3,4 +3,5 @@ mod PassLaws
 mod PartLaws
 mod StepParts
 mod FinishParts
+mod FreeParts
 mod TestLaws

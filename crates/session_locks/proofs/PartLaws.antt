@@ -12,10 +12,11 @@ use Rattle.round_model.specs.declared.asks.Ask.TheVariants.{Lock, GiveBack}
 use Rattle.round_model.specs.Views.{ViewSeen}
 use Rattle.round_model.specs.Refiners.{Refining, after_answer, after_release}
 use Rattle.token_words.specs.Changes.{SetAt}
-use Rattle.session_model.specs.Sessions.{SessionState, is_left_over, locks, least_old, opened, round_ended, settled, with_view, printed_once, without_flight, without_old}
+use Rattle.session_model.specs.Sessions.{SessionState, is_left_over, locks, least_old, opened, round_ended, settled, with_view, printed_once, counted_from, without_flight, without_old}
 use Rattle.session_model.specs.declared.steps.Stepped.TheVariants.{Unlocked, Tried, GaveBack}
 use Rattle.session_model.specs.Steps.{stepped, begun_round, with_round, after_try}
-use Rattle.session_model.specs.SessionStates.{IsSessionState, ended_is, ended_locks, ended_like, opened_is, printed_is}
+use Rattle.session_model.specs.SessionStates.{IsSessionState}
+use Rattle.session_model.specs.StateLaws.{counted_is, ended_is, ended_locks, ended_like, opened_is, printed_is}
 use Rattle.session_model.specs.Does.{IsStep}
 use Rattle.session_model.specs.StepLaws.{IsLeast, some_old_in, withdraw_step, unlocked_step, no_round, tried_step, given_step, begun_is, begun_like}
 use Rattle.session_locks.specs.Sessions.{SessionSeen, session_of, with_state, old_of, session_seen, AreParts}
@@ -135,6 +136,19 @@ module _ (mesh : MeshLists) (number : ℕ) (view : Option ViewSeen) (round : Opt
 
   pub printed_same : HasSameUses state (session_seen mesh number view round true locked flight (frames + 1)).state
   printed_same = record { uses_are = λ p. refl; locks_are = λ p. refl }
+
+  -- ---- frames are counted on from a number
+
+  pub counted_seen : (now : ℕ) → session_seen mesh number view round printed locked flight now ≡ with_state seen (counted_from now state)
+  unfolding counted_from
+  counted_seen now = refl
+
+  pub counted_parts : (now : ℕ) → AreParts seen locked → AreParts (session_seen mesh number view round printed locked flight now) locked
+  unfolding counted_from
+  counted_parts now parts = changed (counted_from now state) (session_seen mesh number view round printed locked flight now) locked parts (counted_seen now) (counted_is mesh state now parts.session.is) refl parts.flags
+
+  pub counted_same : (now : ℕ) → HasSameUses state (session_seen mesh number view round printed locked flight now).state
+  counted_same now = record { uses_are = λ p. refl; locks_are = λ p. refl }
 
   -- ---- the round ends
 

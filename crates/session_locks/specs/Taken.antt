@@ -9,7 +9,7 @@ use Rattle.session_model.specs.declared.steps.Stepped.TheVariants.{Done}
 use Rattle.session_model.specs.Sessions.{SessionState, is_left_over, uses, settled}
 use Rattle.session_model.specs.Steps.{stepped, round_or_begun, with_round, answer_ask, step, try_pairs, freed, free_step}
 use Rattle.session_model.specs.Does.{steps_left}
-use Rattle.session_model.specs.FreeLaws.{Frees}
+use Rattle.session_model.specs.Freeing.{Frees, FreesAll}
 use Rattle.session_model.specs.Finishes.{Steps, Finishes, HasFinished}
 use Rattle.session_locks.specs.Sessions.{SessionSeen, with_state}
 
@@ -89,3 +89,13 @@ pub record TakesFreeStep (old : SessionSeen) (did : Option Stepped) (new : Sessi
   pub is : freed did new.state ≡ free_step old.state
   pub frees : Frees old.state did new.state
   pub free : did ≡ None → (p : ℕ) → uses old.state p ≡ false
+
+-- the session took steps towards no use until there was none, and gave so many old locks back
+pub record TakesFreeSteps (old : SessionSeen) (unlocks : ℕ) (new : SessionSeen) : Type 0 where
+  pub mesh : new.mesh ≡ old.mesh
+  pub number : new.number ≡ old.number
+  pub frees : FreesAll old.state unlocks new.state
+  pub view : new.state.view ≡ old.state.view
+  pub frames : new.state.frames ≡ old.state.frames
+  pub free : (p : ℕ) → uses new.state p ≡ false
+  pub no_round : new.state.round ≡ None

@@ -40,7 +40,7 @@ impl<'m> Model for Session<'m> {
 
 impl<'m> Session<'m> {
     ghost use Rattle.std.specs.Prelude.{◌≡◌, ℕ, ◌^◌, ◌<◌, length, None, Some, IfOk, MatchOption};
-    ghost use Rattle.session_model.specs.Sessions.{opened, round_ended, with_view, printed_once};
+    ghost use Rattle.session_model.specs.Sessions.{opened, round_ended, with_view, printed_once, counted_from};
     ghost use Rattle.session_locks.specs.Sessions.{SessionSeen, session_of, with_state, IsSession, IsDone};
     ghost use Rattle.session_locks.specs.Passes.{HasSameUses};
 
@@ -117,6 +117,14 @@ impl<'m> Session<'m> {
     {
         self.is_printed = true;
         self.frames += 1;
+    }
+
+    /// Counts the frames on from this number.
+    pub fn count_from(&mut self, frames: u64)
+        ensures state { self.new ≡ with_state self.old (counted_from frames self.old.state) }
+        ensures same { HasSameUses self.old.state self.new.state }
+    {
+        self.frames = frames;
     }
 }
 

@@ -14,9 +14,11 @@ use Rattle.session_model.specs.Sessions.{SessionState, is_left_over, locks}
 use Rattle.session_model.specs.Steps.{step}
 use Rattle.session_model.specs.SessionStates.{IsSessionState}
 use Rattle.session_model.specs.StepLaws.{step_is}
-use Rattle.session_model.specs.DoneRounds.{HasDone, step_done}
+use Rattle.session_model.specs.DoneRounds.{HasDone}
+use Rattle.session_model.specs.DoneLaws.{step_done}
 use Rattle.session_model.specs.Arcs.{is_from, is_from_tail, IsPassing, passing_at, among_passing}
-use Rattle.session_model.specs.Refinings.{IsRefining, frame_is_locked}
+use Rattle.session_model.specs.Refinings.{frame_is_locked}
+use Rattle.session_model.specs.GoingRounds.{IsRefining}
 
 -- a base patch leads from the root
 abbrev pub is_base : Refining → ℕ → Bool

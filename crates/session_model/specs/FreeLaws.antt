@@ -6,45 +6,16 @@ use Rattle.std.proofs.lemmas.List.{length-set}
 use Rattle.mesh_model.specs.Meshes.{MeshLists, IsMesh}
 use Rattle.round_model.specs.Refiners.{Refining}
 use Rattle.token_words.specs.Changes.{SetAt}
-use Rattle.session_model.specs.declared.steps.Stepped.{Stepped}
-use Rattle.session_model.specs.declared.steps.Stepped.TheVariants.{Unlocked, Tried, Withdrew, GaveBack, Done}
+use Rattle.session_model.specs.declared.steps.Stepped.TheVariants.{Unlocked, Withdrew}
 use Rattle.session_model.specs.Locks.{round_locks}
 use Rattle.session_model.specs.Sessions.{SessionState, is_left_over, locks, is_in_flight, uses, least_old, round_ended, without_flight, without_old}
-use Rattle.session_model.specs.Steps.{FreeStep, free_old, free_or, free_step}
-use Rattle.session_model.specs.Counts.{count_below, count_falls}
-use Rattle.session_model.specs.SessionStates.{IsSessionState, IsLike, like_uses, ended_is, ended_like, ended_many}
-use Rattle.session_model.specs.Does.{DoesUnlock, DoesWithdraw, DoesNothing, does_like}
+use Rattle.session_model.specs.Steps.{free_old, free_or, free_step}
+use Rattle.session_model.specs.Counts.{count_falls}
+use Rattle.session_model.specs.SessionStates.{IsSessionState, IsLike, like_uses}
+use Rattle.session_model.specs.StateLaws.{ended_is, ended_like, ended_many}
+use Rattle.session_model.specs.Does.{does_like}
 use Rattle.session_model.specs.StepLaws.{none_old_in, some_old_in, unlocked_step, withdraw_step}
-
--- how many patches are used
-unfoldable pub uses_left : SessionState → ℕ
-uses_left s = count_below (length s.leftover) (uses s)
-
--- there was no use, and nothing changed
-pub record WasFree (s t : SessionState) : Type 0 where
-  pub free : (p : ℕ) → uses s p ≡ false
-  pub same : DoesNothing s t
-
--- what the answer of a step towards no use says of the locks and the uses
-abbrev pub DoesFree : SessionState → Option Stepped → SessionState → Type 0
-DoesFree s (Some (Unlocked p)) t = DoesUnlock s p t
-DoesFree s (Some (Withdrew p)) t = DoesWithdraw s p t
-DoesFree s (Some (Tried p epoch)) t = ⊥
-DoesFree s (Some (GaveBack p)) t = ⊥
-DoesFree s (Some Done) t = ⊥
-DoesFree s None t = WasFree s t
-
--- a use ended, or there was none
-abbrev pub Frees : SessionState → Option Stepped → SessionState → Type 0
-Frees s (Some did) t = (uses_left t < uses_left s) × ((p : ℕ) × (uses s p ≡ true))
-Frees s None t = Unit {0}
-
-pub record IsFreeStep (mesh : MeshLists) (s : SessionState) (result : FreeStep) : Type 0 where
-  pub does : DoesFree s result.did result.state
-  pub keeps : IsSessionState mesh result.state
-  pub frees : Frees s result.did result.state
-  pub view : result.state.view ≡ s.view
-  pub no_round : result.state.round ≡ None
+use Rattle.session_model.specs.Freeing.{uses_left, IsFreeStep, FreesAll, NoUse, MoreUse}
 
 -- one use less
 fewer : (s t : SessionState) (p : ℕ) → length t.leftover ≡ length s.leftover → p < length s.leftover → uses s p ≡ true → SetAt (uses s) p false (uses t) → (uses_left t < uses_left s) × ((q : ℕ) × (uses s q ≡ true))
@@ -112,3 +83,39 @@ module _ (mesh : MeshLists) (accepted : IsMesh mesh) (s : SessionState) (is : Is
   pub free_step_is : IsFreeStep mesh s (free_step s)
   unfolding free_step
   free_step_is = by_flight s.flight refl
+
+-- ---- until there is no use
+
+-- a session that is as free as this has no use
+free_by_old : (s : SessionState) (p : ℕ) → s.flight ≡ None → (old : Option ℕ) → least_old (round_ended s) ≡ old → (free_old (round_ended s) old).did ≡ None → uses (free_old (round_ended s) old).state p ≡ false
+unfolding round_ended
+free_by_old s p none (Some q) e is = absurd (cc)
+free_by_old s p none None e is = rw none (rw (none_old_in (round_ended s) e p) refl)
+
+free_by_flight : (s : SessionState) (p : ℕ) (flight : Option ℕ) → s.flight ≡ flight → (free_or (round_ended s) flight).did ≡ None → uses (free_or (round_ended s) flight).state p ≡ false
+free_by_flight s p (Some q) e is = absurd (cc)
+free_by_flight s p None e is = free_by_old s p e (least_old (round_ended s)) refl is
+
+pub free_has_no_use : (s : SessionState) → (free_step s).did ≡ None → (p : ℕ) → uses (free_step s).state p ≡ false
+unfolding free_step
+free_has_no_use s is p = free_by_flight s p s.flight refl is
+
+pub freed_has_no_use : (s t : SessionState) (unlocks : ℕ) → FreesAll s unlocks t → (p : ℕ) → uses t p ≡ false
+freed_has_no_use s _ _ (NoUse none) p = free_has_no_use s none p
+freed_has_no_use s t _ (MoreUse {n = n} did is rest) p = freed_has_no_use (free_step s).state t n rest p
+
+-- such a session has no round
+no_round_by_old : (s : SessionState) (old : Option ℕ) → (free_old (round_ended s) old).state.round ≡ None
+unfolding round_ended
+no_round_by_old s (Some p) = refl
+no_round_by_old s None = refl
+
+no_round_by_flight : (s : SessionState) (flight : Option ℕ) → (free_or (round_ended s) flight).state.round ≡ None
+unfolding round_ended
+no_round_by_flight s (Some p) = refl
+no_round_by_flight s None = no_round_by_old s (least_old (round_ended s))
+
+pub freed_has_no_round : (s t : SessionState) (unlocks : ℕ) → FreesAll s unlocks t → t.round ≡ None
+unfolding free_step
+freed_has_no_round s _ _ (NoUse none) = no_round_by_flight s s.flight
+freed_has_no_round s t _ (MoreUse {n = n} did is rest) = freed_has_no_round (free_step s).state t n rest

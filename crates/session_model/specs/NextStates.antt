@@ -12,10 +12,12 @@ use Rattle.session_model.specs.declared.steps.Stepped.{Stepped}
 use Rattle.session_model.specs.declared.steps.Stepped.TheVariants.{Unlocked, Tried, Withdrew, GaveBack, Done}
 use Rattle.session_model.specs.Sessions.{SessionState, locks, least_old, settled, with_view, printed_once}
 use Rattle.session_model.specs.Steps.{round_or_begun, answer_ask, go_on, unlock_or, withdraw_or, step, epoch_for, IsOfEpochs, step_by, free_step}
-use Rattle.session_model.specs.SessionStates.{IsSessionState, viewed_is, viewed_locks, printed_is, printed_locks}
+use Rattle.session_model.specs.SessionStates.{IsSessionState}
+use Rattle.session_model.specs.StateLaws.{viewed_is, viewed_locks, printed_is, printed_locks}
 use Rattle.session_model.specs.Does.{Does}
 use Rattle.session_model.specs.StepLaws.{step_is}
-use Rattle.session_model.specs.FreeLaws.{DoesFree, free_step_is}
+use Rattle.session_model.specs.FreeLaws.{free_step_is}
+use Rattle.session_model.specs.Freeing.{DoesFree}
 
 -- ---- a step whose try is answered by its patch's epoch
 

@@ -29,22 +29,11 @@ use Rattle.round_laws.specs.Steps.{after_refusal, after_last_grant, after_grant}
 use Rattle.token_words.specs.Changes.{SetAt}
 use Rattle.session_model.specs.Locks.{was_tried, was_granted, is_in_progress, is_held, leads_from_held, locked_by, round_locks}
 use Rattle.session_model.specs.Asks.{AsksToLock, asks_to_lock, AsksBack, asks_back}
+use Rattle.session_model.specs.GoingRounds.{IsRefining}
 use Rattle.session_model.specs.Arcs.{is_from, is_from_tail, from_within, among_outgoing, from_tail, passing_at, one_tail, AreApart, front_among, outgoing_apart, not_in_front, not_behind, front_not_behind, front_apart, same_front}
 use Rattle.session_model.specs.Tested.{tried_both, among_patches, granted_was_tried, all_were_granted, granted_both, granted_other, granted_here}
 use Rattle.session_model.specs.Passed.{IsInHand, IsPlacedAt, round_placed}
 use Rattle.session_model.specs.Resting.{IsFresh, IsResting, rests}
-
--- the patch was granted, and its node missed
-pub record IsOwed (r : Refining) (p : ℕ) : Type 0 where
-  pub granted : was_granted r.tries p ≡ true
-  pub outside : leads_from_held r.rules.mesh.index.fields (round_state r) p ≡ false
-
--- a round over an accepted mesh in which each answer was to a try that it asked for
-pub record IsRefining (r : Refining) : Type 0 where
-  pub mesh : IsMesh r.rules.mesh
-  pub tries : (round_state r).tries ≡ r.tries
-  pub apart : AreApart r.owed
-  pub owed : (p : ℕ) → is_among r.owed p ≡ true → IsOwed r p
 
 -- ---- the order
 

@@ -55,6 +55,10 @@ with_view view s = record (round_ended s) { view = Some view }
 unfoldable pub printed_once : SessionState → SessionState
 printed_once s = record s { printed = true; frames = s.frames + 1 }
 
+-- the session counts its frames on from this number
+unfoldable pub counted_from : ℕ → SessionState → SessionState
+counted_from frames s = record s { frames = frames }
+
 -- the refused try was withdrawn
 abbrev pub without_flight : SessionState → SessionState
 without_flight s = record s { flight = None }

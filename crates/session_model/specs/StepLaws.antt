@@ -19,10 +19,12 @@ use Rattle.token_words.specs.Changes.{SetAt}
 use Rattle.session_model.specs.declared.steps.Stepped.TheVariants.{Unlocked, Tried, Withdrew, GaveBack, Done}
 use Rattle.session_model.specs.Locks.{was_tried, round_locks}
 use Rattle.session_model.specs.Tested.{tried_one_more}
-use Rattle.session_model.specs.Refinings.{IsRefining, never_tried, asked_is_free, answer_locks, answer_refining, asked_within, owed_is_locked, release_locks, release_refining, locked_within, begun_refining, begun_locks}
+use Rattle.session_model.specs.Refinings.{never_tried, asked_is_free, answer_locks, answer_refining, asked_within, owed_is_locked, release_locks, release_refining, locked_within, begun_refining, begun_locks}
+use Rattle.session_model.specs.GoingRounds.{IsRefining}
 use Rattle.session_model.specs.Sessions.{SessionState, is_left_over, locks, is_in_flight, uses, least_old, settled, without_flight, without_old}
 use Rattle.session_model.specs.Steps.{stepped, begun_round, with_round, after_try, answer_ask, go_on, unlock_or, withdraw_or, step}
-use Rattle.session_model.specs.SessionStates.{IsRunning, IsRefused, IsSessionState, tries_of, IsLike, rules_mesh, running_mesh, settled_is, settled_like, settled_tries, settled_going}
+use Rattle.session_model.specs.SessionStates.{IsRunning, IsRefused, IsSessionState, tries_of, IsLike}
+use Rattle.session_model.specs.StateLaws.{rules_mesh, running_mesh, settled_is, settled_like, settled_tries, settled_going}
 use Rattle.session_model.specs.Does.{less_by_use, less_by_try, IsStep, step_like}
 
 or_false : (t : Bool) → (t || false) ≡ t

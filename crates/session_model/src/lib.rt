@@ -7,25 +7,27 @@
 mod steps;
 
 ghost use Rattle.std.specs.Prelude.{◌≡◌, ◌⊎◌, ℕ, ◌<◌, Bool, true, false, List, [], ◌++◌, length, Some, None};
+ghost use Rattle.file_model.specs.declared.fields.Try.{Try};
 ghost use Rattle.file_model.specs.Tries.{is_odd};
 ghost use Rattle.mesh_model.specs.Meshes.{MeshLists, IsMesh};
 ghost use Rattle.round_model.specs.declared.asks.Ask.TheVariants.{Lock, GiveBack};
-ghost use Rattle.round_model.specs.Views.{ViewSeen};
+ghost use Rattle.round_model.specs.Views.{ViewSeen, view_rules};
 ghost use Rattle.round_model.specs.Refiners.{Refining, pending_ask, after_answer, after_release, cut_patches};
 ghost use Rattle.round_laws.specs.Among.{is_among};
 ghost use Rattle.token_words.specs.Changes.{SetAt, Stays};
 ghost use Rattle.session_model.specs.declared.steps.Stepped.TheVariants.{Done};
 ghost use Rattle.session_model.specs.Locks.{was_tried, round_locks};
-ghost use Rattle.session_model.specs.Refinings.{IsRefining};
+ghost use Rattle.session_model.specs.GoingRounds.{IsRefining};
 ghost use Rattle.session_model.specs.FrameLocks.{is_base, IsLockedFrame};
 ghost use Rattle.session_model.specs.Sessions.{SessionState, locks, uses, opened, round_ended, with_view, printed_once};
 ghost use Rattle.session_model.specs.Steps.{step, IsOfEpochs, step_by, free_step};
 ghost use Rattle.session_model.specs.SessionStates.{IsSessionState, unprinted_round};
 ghost use Rattle.session_model.specs.Does.{Does, steps_left};
-ghost use Rattle.session_model.specs.FreeLaws.{DoesFree, Frees};
+ghost use Rattle.session_model.specs.Freeing.{DoesFree, Frees, FreesAll};
 ghost use Rattle.session_model.specs.NextStates.{IsNext};
-ghost use Rattle.session_model.specs.DoneRounds.{HasDone};
-ghost use Rattle.session_model.specs.Finishes.{Finishes, pairs_of};
+ghost use Rattle.session_model.specs.DoneRounds.{HasDone, AreWhole};
+ghost use Rattle.session_model.specs.Finishes.{Steps, Finishes, pairs_of, FinishesBy, FinishesAs};
+ghost use Rattle.session_model.specs.Told.{session_told};
 
 pub use steps::Stepped;
 
@@ -98,6 +100,43 @@ pub fn a_finished_round_has_the_tries_that_were_made()
         → IsSessionState mesh s → unprinted_round s ≡ None → (view : ViewSeen) → s.view ≡ Some view
         → (tries : List (ℕ × ℕ)) (t : SessionState) → Finishes mesh told epochs s tries t
         → (has : HasDone t) × (pairs_of has.round.tries ≡ tries) }
+{}
+
+/// The tries of a round that is done are those of a whole round of the session's view.
+pub fn a_done_round_is_whole()
+    ensures { (mesh : MeshLists) (t : SessionState) → IsSessionState mesh t → (view : ViewSeen)
+        → t.view ≡ Some view → (has : HasDone t)
+        → AreWhole (view_rules view mesh) has.round.tries }
+{}
+
+/// A session finishes its round, whatever epochs answer its tries; where no round goes on, the tries of any whole
+/// round of its view are tries that it makes.
+pub fn a_session_finishes_by_any_answers()
+    ensures given { (mesh : MeshLists) (epochs : ℕ → ℕ) → IsMesh mesh → (given : List ℕ)
+        (s : SessionState) → IsSessionState mesh s → FinishesBy mesh epochs given s }
+    ensures whole { (mesh : MeshLists) → IsMesh mesh → (epochs : ℕ → ℕ) (s : SessionState)
+        → IsSessionState mesh s → unprinted_round s ≡ None → (view : ViewSeen) → s.view ≡ Some view
+        → (tries : List Try) → AreWhole (view_rules view mesh) tries
+        → FinishesAs mesh epochs s tries }
+{}
+
+/// Steps change neither a session's view nor how many frames it printed.
+pub fn steps_keep_the_view_and_the_frames()
+    ensures steps { (mesh : MeshLists) (told : Bool) (epochs : ℕ → ℕ) (s : SessionState)
+        (tries : List (ℕ × ℕ)) (t : SessionState) → Steps mesh told epochs s tries t
+        → session_told t ≡ session_told s }
+    ensures finishes { (mesh : MeshLists) (told : Bool) (epochs : ℕ → ℕ) (s : SessionState)
+        (tries : List (ℕ × ℕ)) (t : SessionState) → Finishes mesh told epochs s tries t
+        → session_told t ≡ session_told s }
+    ensures freed { (s t : SessionState) (unlocks : ℕ) → FreesAll s unlocks t
+        → session_told t ≡ session_told s }
+{}
+
+/// A session that has given back all that it used has no use and no round.
+pub fn a_freed_session_has_no_use()
+    ensures uses { (s t : SessionState) (unlocks : ℕ) → FreesAll s unlocks t → (p : ℕ)
+        → uses t p ≡ false }
+    ensures round { (s t : SessionState) (unlocks : ℕ) → FreesAll s unlocks t → t.round ≡ None }
 {}
 
 /// What a session has locked after an event it had locked, or the patch has an odd epoch.

@@ -13,14 +13,15 @@ use Rattle.token_words.specs.Changes.{Stays}
 use Rattle.token_words.specs.PlainTokens.{words_seen, epoch_in}
 use Rattle.token_words.specs.declared.plain_words.PlainTokens.{PlainTokens}
 use Rattle.run_model.specs.Lines.{DidStep, DidFree}
-use Rattle.run_model.specs.Freeing.{FreesAll}
+use Rattle.session_model.specs.Freeing.{FreesAll}
 use Rattle.session_seats.specs.declared.seat.Seat.{Seat}
-use Rattle.session_seats.specs.Seats.{SeatsSeen, at_seat, AreSeated, HasView, session_told, told_at}
+use Rattle.session_seats.specs.Seats.{SeatsSeen, at_seat, AreSeated, HasView, told_at}
+use Rattle.session_model.specs.Told.{session_told}
 use Rattle.session_seats.specs.SeatChanges.{ChangesSeat}
 use Rattle.session_seats.specs.Orders.{DoesOrder, ReachesSeats, FinishesRound, FreesUses}
 use Rattle.session_seats.specs.SeatLaws.{seat_is, told_stays}
 use Rattle.session_seats.specs.OrderLaws.{steps, frees, stops}
-use Rattle.session_seats.specs.ToldLaws.{told_settled, settled_flight, told_stepped, told_steps, told_finishes, told_frees}
+use Rattle.session_model.specs.ToldLaws.{told_settled, settled_flight, told_stepped, told_steps, told_finishes, told_frees}
 use Rattle.session_seats.specs.SeatParts.{seat_state, sessions_of, AreSeats}
 use Rattle.session_seats.specs.SeatSteps.{KeepsSeat, SeatSteps, SeatStops, SeatFinishes, SeatStopsAfter}
 use Rattle.session_seats.proofs.PartLaws.{old_seat, number, old_state, many, changes}
@@ -81,7 +82,7 @@ module _ (mesh : MeshLists) (seats : List (Option Seat)) (words : PlainTokens) (
     finish_stops has made = stopped has made.tries made.last (let P : MeshLists → Type 0 = λ m. Steps m true (epoch_in (words_seen words)) (seat_state old) made.tries made.last in subst P over made.steps) made.no_flight made.no_old made.is
 
     pub finish_stops_told : SeatStopsAfter (words_seen words) old new → Stays (told_at (sessions_of seats)) (told_at (sessions_of after))
-    finish_stops_told made = told (ap session_told made.is ∙ told_settled made.last ∙ told_steps old.session.mesh (epoch_in (words_seen words)) (seat_state old) made.tries made.last made.steps)
+    finish_stops_told made = told (ap session_told made.is ∙ told_settled made.last ∙ told_steps old.session.mesh true (epoch_in (words_seen words)) (seat_state old) made.tries made.last made.steps)
 
     -- ---- a round that is done
 
@@ -102,7 +103,7 @@ module _ (mesh : MeshLists) (seats : List (Option Seat)) (words : PlainTokens) (
     }
 
     pub finish_told : SeatFinishes (words_seen words) old new → Stays (told_at (sessions_of seats)) (told_at (sessions_of after))
-    finish_told made = told (told_finishes old.session.mesh (epoch_in (words_seen words)) (seat_state old) made.tries (seat_state new) made.finishes)
+    finish_told made = told (told_finishes old.session.mesh true (epoch_in (words_seen words)) (seat_state old) made.tries (seat_state new) made.finishes)
 
     -- ---- no use
 

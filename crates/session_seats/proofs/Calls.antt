@@ -9,7 +9,7 @@ use Rattle.token_words.specs.Changes.{Stays}
 use Rattle.token_words.specs.PlainTokens.{words_seen}
 use Rattle.token_words.specs.declared.plain_words.PlainTokens.{PlainTokens}
 use Rattle.run_model.specs.Lines.{DidStep}
-use Rattle.run_model.specs.Freeing.{FreesAll}
+use Rattle.session_model.specs.Freeing.{FreesAll}
 use Rattle.session_seats.specs.declared.seat.Seat.{Seat}
 use Rattle.session_seats.specs.Seats.{SeatsSeen, at_seat, AreSeated, HasView, told_at}
 use Rattle.session_seats.specs.SeatChanges.{KeepsWords}

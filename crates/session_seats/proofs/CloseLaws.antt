@@ -9,7 +9,8 @@ use Rattle.token_words.specs.declared.entries.Entry.{Entry}
 use Rattle.wish_board.specs.Boards.{BoardSeen, without_view}
 use Rattle.run_model.specs.Lines.{DidClose}
 use Rattle.session_seats.specs.declared.seat.Seat.{Seat}
-use Rattle.session_seats.specs.Seats.{SeatsSeen, SessionTold, with_seat, AreSeated, told_at}
+use Rattle.session_seats.specs.Seats.{SeatsSeen, with_seat, AreSeated, told_at}
+use Rattle.session_model.specs.Told.{SessionTold}
 use Rattle.session_seats.specs.SeatChanges.{ChangesSeat}
 use Rattle.session_seats.specs.Boards.{IsBoardFor}
 use Rattle.session_seats.specs.Orders.{DoesPosting, FreesUses}

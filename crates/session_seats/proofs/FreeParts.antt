@@ -12,13 +12,12 @@ use Rattle.session_model.specs.declared.steps.Stepped.TheVariants.{Unlocked, Tri
 use Rattle.session_model.specs.Sessions.{SessionState, uses}
 use Rattle.session_model.specs.Steps.{FreeStep, freed, free_step}
 use Rattle.session_model.specs.Counts.{count_below}
-use Rattle.session_model.specs.FreeLaws.{uses_left, Frees}
+use Rattle.session_model.specs.Freeing.{uses_left, Frees, unlocks_in, FreesAll, NoUse, MoreUse}
 use Rattle.token_words.specs.Changes.{Stays, ChangesOnly}
 use Rattle.token_words.specs.PlainTokens.{words_seen, epoch_in, is_pinned_in, is_user_in, is_locker_in, session_of}
 use Rattle.token_words.specs.declared.plain_words.PlainTokens.{PlainTokens}
 use Rattle.session_seats.specs.declared.seat.Seat.{Seat}
 use Rattle.session_seats.specs.SeatSteps.{KeepsSeat}
-use Rattle.run_model.specs.Freeing.{unlocks_in, FreesAll, NoUse, MoreUse}
 
 count_most : (n : ℕ) (test : ℕ → Bool) → count_below n test ≤ n
 unfolding count_below

@@ -5,7 +5,8 @@ use Rattle.std.proofs.lemmas.Option.{same_Some}
 use Rattle.mesh_model.specs.Meshes.{MeshLists}
 use Rattle.script_model.specs.declared.orders.Order.TheVariants as orders
 use Rattle.session_model.specs.Sessions.{SessionState, locks, opened}
-use Rattle.session_model.specs.SessionStates.{IsSessionState, none_left_over, opened_is, opened_uses}
+use Rattle.session_model.specs.SessionStates.{IsSessionState}
+use Rattle.session_model.specs.StateLaws.{none_left_over, opened_is, opened_uses}
 use Rattle.session_locks.specs.Sessions.{SessionSeen}
 use Rattle.session_locks.specs.Sessions.{session_of as session_over}
 use Rattle.token_words.specs.Changes.{SetAt}
@@ -15,12 +16,13 @@ use Rattle.token_words.specs.declared.plain_words.PlainTokens.{PlainTokens}
 use Rattle.run_model.specs.Lines.{DidOpen}
 use Rattle.run_model.specs.States.{seat_uses}
 use Rattle.session_seats.specs.declared.seat.Seat.{Seat}
-use Rattle.session_seats.specs.Seats.{SeatsSeen, SessionTold, at_seat, with_seat, AreSeated, told_at, just_opened}
+use Rattle.session_seats.specs.Seats.{SeatsSeen, at_seat, with_seat, AreSeated, told_at}
+use Rattle.session_model.specs.Told.{SessionTold, just_opened}
 use Rattle.session_seats.specs.SeatChanges.{ChangesSeat}
 use Rattle.session_seats.specs.Orders.{DoesOrder}
 use Rattle.session_seats.specs.SeatLaws.{seated_now, told_set}
 use Rattle.session_seats.specs.OrderLaws.{opens, keeps_words}
-use Rattle.session_seats.specs.ToldLaws.{told_opened}
+use Rattle.session_model.specs.ToldLaws.{told_opened}
 use Rattle.session_seats.specs.SeatParts.{seat_state, IsSeat, AreSeats}
 use Rattle.session_seats.proofs.PartLaws.{are_seats_set}
 use Rattle.session_seats.proofs.CallLaws.{seats_seen}

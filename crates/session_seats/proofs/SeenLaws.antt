@@ -9,18 +9,20 @@ use Rattle.mesh_model.specs.Meshes.{MeshLists}
 use Rattle.round_model.specs.Refiners.{Refining}
 use Rattle.round_model.specs.Views.{ViewSeen}
 use Rattle.session_model.specs.Sessions.{SessionState, locks, uses, round_ended, with_view, printed_once}
-use Rattle.session_model.specs.SessionStates.{IsSessionState, like_uses, ended_like, viewed_is, viewed_locks, printed_is, printed_locks}
+use Rattle.session_model.specs.SessionStates.{IsSessionState, like_uses}
+use Rattle.session_model.specs.StateLaws.{ended_like, viewed_is, viewed_locks, printed_is, printed_locks}
 use Rattle.session_locks.specs.Sessions.{SessionSeen, with_state}
 use Rattle.token_words.specs.Changes.{SetAt}
 use Rattle.token_words.specs.Sessions.{IsSession}
 use Rattle.token_words.specs.declared.entries.Entry.{Entry}
 use Rattle.token_words.specs.declared.session_sets.TheConstants.{SESSIONS}
 use Rattle.session_seats.specs.declared.seat.Seat.{Seat}
-use Rattle.session_seats.specs.Seats.{SeatsSeen, SessionTold, at_seat, with_seat, AreSeated, session_told, told_at, told_view, one_frame_more}
+use Rattle.session_seats.specs.Seats.{SeatsSeen, at_seat, with_seat, AreSeated, told_at}
+use Rattle.session_model.specs.Told.{SessionTold, session_told, told_view, one_frame_more}
 use Rattle.session_seats.specs.SeatChanges.{ChangesSeat}
 use Rattle.session_seats.specs.SeatLaws.{seated_now, told_set}
 use Rattle.session_seats.specs.OrderLaws.{same_uses, printed_uses}
-use Rattle.session_seats.specs.ToldLaws.{told_viewed, told_printed}
+use Rattle.session_model.specs.ToldLaws.{told_viewed, told_printed}
 use Rattle.session_seats.specs.SeatParts.{seat_state, sessions_of, IsSeat, AreSeats}
 use Rattle.session_seats.proofs.PartLaws.{at_sessions, sessions_set, sessions_many, seat_read, seat_number, are_seats_set}
 use Rattle.session_seats.proofs.CallLaws.{seats_seen}

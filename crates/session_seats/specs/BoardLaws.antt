@@ -1,5 +1,5 @@
 -- What is posted and taken off, as what its line orders.
-use Rattle.std.proofs.Common.{◌≡◌, ℕ, zero, suc, ◌+◌, ◌-◌, ◌<◌, ◌≤◌, ◌^◌, ◌%◌, Bool, true, false, cond, List, length, map, Option, Some, None, is_some, refl, sym, ap, subst, ◌∙◌, arith}
+use Rattle.std.proofs.Common.{◌≡◌, ℕ, zero, suc, ◌+◌, ◌-◌, ◌<◌, ◌≤◌, ◌^◌, Bool, true, false, cond, List, length, map, Option, Some, None, is_some, refl, sym, ap, subst, ◌∙◌, arith}
 use Rattle.std.specs.Prelude.{slice_index_or, slice_set}
 use Rattle.std.proofs.Math.Nat.{mod-eq_of_lt}
 use Rattle.std.proofs.lemmas.List.{length-set}
@@ -8,20 +8,19 @@ use Rattle.round_model.specs.Scores.{score_of}
 use Rattle.round_model.specs.Views.{ViewSeen, rules_of, view_rules}
 use Rattle.script_model.specs.declared.orders.Order.TheVariants as orders
 use Rattle.session_model.specs.Sessions.{SessionState, uses, with_view}
-use Rattle.session_model.specs.SessionStates.{IsSessionState, IsLike, like_uses}
 use Rattle.tier_model.specs.Tiers.{TierState}
 use Rattle.tier_model.specs.Ranks.{Posted}
 use Rattle.token_words.specs.Sessions.{IsSession}
 use Rattle.token_words.specs.declared.entries.Entry.{Entry}
 use Rattle.token_words.specs.declared.session_sets.TheConstants.{SESSIONS}
-use Rattle.wish_board.specs.Boards.{BoardSeen, Fits, posted_view, next_version, without_view}
+use Rattle.wish_board.specs.Boards.{BoardSeen, next_version, without_view}
 use Rattle.wish_board.specs.Boards.{view_of as view_on, with_view as board_with}
-use Rattle.wish_board.specs.BoardLaws.{fits_with_view, fits_without_view}
-use Rattle.run_model.specs.Worlds.{World}
+use Rattle.wish_board.specs.BoardLaws.{fits_with_view}
 use Rattle.run_model.specs.States.{State, seated, posting, posting_of, posted_by}
 use Rattle.run_model.specs.Lines.{DidView, DidClose, taken_off, Does, DoesView, DoesClose}
-use Rattle.run_model.specs.SessionReach.{seat_twice, freed_has_no_use}
-use Rattle.session_seats.specs.Seats.{SeatsSeen, at_seat, state_of, AreSeated}
+use Rattle.session_model.specs.FreeLaws.{freed_has_no_use}
+use Rattle.run_model.specs.SessionReach.{seat_twice}
+use Rattle.session_seats.specs.Seats.{SeatsSeen, at_seat, state_of}
 use Rattle.session_seats.specs.SeatChanges.{ChangesSeat}
 use Rattle.session_seats.specs.Boards.{IsBoardFor, posted_on}
 use Rattle.session_seats.specs.Orders.{DoesPosting, FreesUses}

@@ -3,7 +3,6 @@ pub mod SeatChanges
 pub mod Orders
 pub mod SeatLaws
 pub mod OrderLaws
-pub mod ToldLaws
 pub mod Boards
 pub mod BoardLaws
 pub mod StartLaws

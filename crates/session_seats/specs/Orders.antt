@@ -14,7 +14,7 @@ use Rattle.token_words.specs.Sessions.{IsSession}
 use Rattle.token_words.specs.declared.session_sets.TheConstants.{SESSIONS}
 use Rattle.run_model.specs.Worlds.{World}
 use Rattle.run_model.specs.Events.{Reaches}
-use Rattle.run_model.specs.Freeing.{FreesAll}
+use Rattle.session_model.specs.Freeing.{FreesAll}
 use Rattle.run_model.specs.Lines.{Did, Does}
 use Rattle.session_seats.specs.Seats.{SeatsSeen, at_seat, state_of}
 use Rattle.session_seats.specs.SeatChanges.{ChangesSeat}

@@ -9,7 +9,7 @@ use Rattle.session_model.specs.Steps.{stepped, step, IsOfEpochs, freed, free_ste
 use Rattle.session_model.specs.SessionStates.{IsSessionState}
 use Rattle.session_model.specs.DoneRounds.{HasDone}
 use Rattle.session_model.specs.Finishes.{Steps, Finishes}
-use Rattle.session_model.specs.FreeLaws.{Frees}
+use Rattle.session_model.specs.Freeing.{Frees}
 use Rattle.session_locks.specs.Sessions.{IsSession}
 use Rattle.session_seats.specs.declared.seat.Seat.{Seat}
 use Rattle.session_seats.specs.SeatChanges.{KeepsWords}

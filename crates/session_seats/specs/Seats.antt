@@ -1,10 +1,11 @@
 -- Sessions at their seats, and the state of a run that they make with the tiers, the words and the board.
-use Rattle.std.specs.Prelude.{◌≡◌, ℕ, zero, suc, ◌+◌, ◌-◌, List, length, replicate, Option, Some, None, slice_index_or, slice_set}
+use Rattle.std.specs.Prelude.{◌≡◌, ℕ, zero, suc, ◌-◌, List, length, replicate, Option, Some, None, slice_index_or, slice_set}
 use Rattle.std.specs.Option.{option_map}
 use Rattle.mesh_model.specs.Meshes.{MeshLists}
 use Rattle.round_model.specs.Refiners.{Refining}
 use Rattle.round_model.specs.Views.{ViewSeen}
 use Rattle.session_model.specs.Sessions.{SessionState, locks}
+use Rattle.session_model.specs.Told.{SessionTold, session_told}
 use Rattle.session_model.specs.SessionStates.{IsSessionState}
 use Rattle.session_model.specs.DoneRounds.{HasDone}
 use Rattle.tier_model.specs.Tiers.{TierState}
@@ -61,26 +62,9 @@ pub record AreSeated (mesh : MeshLists) (words : List Entry) (sessions : List (O
 
 -- ---- what a script tells of sessions
 
--- of an open session: its view, and how many frames it printed
-pub record SessionTold : Type 0 where
-  pub view : Option ViewSeen
-  pub frames : ℕ
-
-abbrev pub session_told : SessionState → SessionTold
-session_told s = record { view = s.view; frames = s.frames }
-
 -- what is told of the session of this number, if it is open
 abbrev pub told_at : List (Option SessionState) → ℕ → Option SessionTold
 told_at sessions i = option_map session_told (at_seat sessions i)
-
-abbrev pub just_opened : SessionTold
-just_opened = record { view = None; frames = 0 }
-
-abbrev pub told_view : SessionTold → ViewSeen → SessionTold
-told_view told view = record told { view = Some view }
-
-abbrev pub one_frame_more : SessionTold → SessionTold
-one_frame_more told = record told { frames = told.frames + 1 }
 
 -- the session is open
 pub record IsOpen (sessions : List (Option SessionState)) (i : ℕ) : Type 0 where

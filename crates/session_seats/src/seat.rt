@@ -7,7 +7,7 @@ ghost use Rattle.session_locks.specs.Sessions.{session_of as session_over};
 ghost use Rattle.token_words.specs.Sessions.{IsSession};
 ghost use Rattle.token_words.specs.PlainTokens.{words_seen, is_user, is_locker, session_of};
 ghost use Rattle.token_words.specs.declared.session_sets.TheConstants.{SESSIONS as GREATEST};
-ghost use Rattle.run_model.specs.Freeing.{unlocks_in, FreesAll};
+ghost use Rattle.session_model.specs.Freeing.{unlocks_in, FreesAll};
 
 use accepted_mesh::Mesh;
 use grid_vertex::NoMemory;

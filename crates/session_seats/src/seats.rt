@@ -40,7 +40,8 @@ impl<'m> Seats<'m> {
     ghost use Rattle.token_words.specs.PlainTokens.{words_seen};
     ghost use Rattle.token_words.specs.declared.session_sets.TheConstants.{SESSIONS as GREATEST};
     ghost use Rattle.run_model.specs.Lines.{DidOpen};
-    ghost use Rattle.session_seats.specs.Seats.{at_seat, empty_seats, AreSeated, told_at, just_opened};
+    ghost use Rattle.session_seats.specs.Seats.{at_seat, empty_seats, AreSeated, told_at};
+    ghost use Rattle.session_model.specs.Told.{just_opened};
     ghost use Rattle.session_seats.specs.Orders.{DoesOrder};
 
     /// Seats over the mesh, where no session is open.

@@ -28,7 +28,8 @@ use Rattle.run_model.specs.Safe.{IsSafe}
 use Rattle.run_model.specs.Lines.{DidFrame, Does, top_body, frame_of}
 use Rattle.run_model.specs.PrintedFrames.{frame_held}
 use Rattle.session_seats.specs.Orders.{FinishesRound}
-use Rattle.session_seats.specs.Seats.{SeatsSeen, SessionTold, IsDoneAt, told_at, one_frame_more}
+use Rattle.session_seats.specs.Seats.{SeatsSeen, IsDoneAt, told_at}
+use Rattle.session_model.specs.Told.{SessionTold, one_frame_more}
 use Rattle.view_machine.specs.Machines.{MachineSeen, world_of, run_state, state_in, KeepsPlace}
 use Rattle.view_machine.specs.LineTells.{DoesLine}
 

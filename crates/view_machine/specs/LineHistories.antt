@@ -8,7 +8,8 @@ use Rattle.script_model.specs.declared.stages.SessionStage.TheVariants.{Closed}
 use Rattle.script_model.specs.Histories.{with_stage}
 use Rattle.session_model.specs.Sessions.{SessionState}
 use Rattle.token_words.specs.Changes.{SetAt, Stays}
-use Rattle.session_seats.specs.Seats.{SessionTold, session_told, at_seat, told_at}
+use Rattle.session_seats.specs.Seats.{at_seat, told_at}
+use Rattle.session_model.specs.Told.{SessionTold, session_told}
 use Rattle.view_machine.specs.LineEnds.{viewed_stage, stage_of, stages_in, frames_at}
 
 -- ---- what is told tells the stage and the frames

@@ -21,7 +21,8 @@ use Rattle.run_model.specs.Worlds.{World}
 use Rattle.run_model.specs.States.{State}
 use Rattle.run_model.specs.Lines.{Did, Does, DoesOpen, DoesView, DoesStep, DoesFrame, DoesFree, DoesClose, DoesTurn, DoesSettle, DoesStatus}
 use Rattle.run_model.specs.RunTexts.{turns_in}
-use Rattle.session_seats.specs.Seats.{SeatsSeen, SessionTold, session_told, told_at, just_opened, told_view, one_frame_more, IsOpen}
+use Rattle.session_seats.specs.Seats.{SeatsSeen, told_at, IsOpen}
+use Rattle.session_model.specs.Told.{SessionTold, session_told, just_opened, told_view, one_frame_more}
 use Rattle.view_machine.specs.declared.refusals.RunRefusal.{RunRefusal}
 use Rattle.view_machine.specs.declared.refusals.RunRefusal.TheVariants.{Memory, WriteFault}
 use Rattle.view_machine.specs.Machines.{MachineSeen, world_of, run_state, KeepsPlace}

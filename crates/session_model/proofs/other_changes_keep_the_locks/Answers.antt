@@ -1,4 +1,4 @@
-use Rattle.session_model.specs.SessionStates.{opened_is, opened_uses, viewed_locks, printed_locks, ended_locks}
+use Rattle.session_model.specs.StateLaws.{opened_is, opened_uses, viewed_locks, printed_locks, ended_locks}
 use Rattle.session_model.proofs.other_changes_keep_the_locks.Goals as goal
 
 pub returns-clause-opened : goal.returns-clause-opened

@@ -1,6 +1,6 @@
 use Rattle.session_model.specs.StepLaws.{step_is}
 use Rattle.session_model.specs.FreeLaws.{free_step_is}
-use Rattle.session_model.specs.DoneRounds.{step_done}
+use Rattle.session_model.specs.DoneLaws.{step_done}
 use Rattle.session_model.proofs.steps_come_to_an_end.Goals as goal
 
 pub returns-clause-steps : goal.returns-clause-steps

@@ -5,7 +5,8 @@ ghost use Rattle.session_model.specs.Sessions.{SessionState, printed_once};
 ghost use Rattle.token_words.specs.Changes.{SetAt};
 ghost use Rattle.token_words.specs.declared.entries.Entry.{Entry};
 ghost use Rattle.token_words.specs.declared.session_sets.TheConstants.{SESSIONS};
-ghost use Rattle.session_seats.specs.Seats.{SessionTold, at_seat, with_seat, AreSeated, HasRound, IsOpen, IsDoneAt, told_at, one_frame_more};
+ghost use Rattle.session_seats.specs.Seats.{at_seat, with_seat, AreSeated, HasRound, IsOpen, IsDoneAt, told_at};
+ghost use Rattle.session_model.specs.Told.{SessionTold, one_frame_more};
 
 use crate::seats::Seats;
 use cut_refiner::Refiner;

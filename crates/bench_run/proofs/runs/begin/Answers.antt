@@ -4,7 +4,8 @@ use Rattle.round_model.specs.Views.{ViewSeen}
 use Rattle.script_model.specs.declared.orders.Order.TheVariants as orders
 use Rattle.token_words.specs.Changes.{SetAt}
 use Rattle.wish_board.specs.Boards.{BoardSeen}
-use Rattle.session_seats.specs.Seats.{just_opened, told_view, told_at}
+use Rattle.session_seats.specs.Seats.{told_at}
+use Rattle.session_model.specs.Told.{just_opened, told_view}
 use Rattle.view_machine.specs.LineTells.{DoesLine}
 use Rattle.view_machine.specs.Machines.{world_of, run_state}
 use Rattle.bench_run.specs.Begun.{told_open, has_begun}

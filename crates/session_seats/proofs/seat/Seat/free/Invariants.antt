@@ -1,5 +1,5 @@
 -- So many old locks were given back, and the seat goes on as from its first state.
-use Rattle.session_model.specs.FreeLaws.{uses_left}
+use Rattle.session_model.specs.Freeing.{uses_left}
 use Rattle.session_seats.specs.SeatSteps.{KeepsSeat}
 use Rattle.session_seats.proofs.FreeParts.{HasFreed}
 use Rattle.session_seats.proofs.seat.Seat.free.Given as goal

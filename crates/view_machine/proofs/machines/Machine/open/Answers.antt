@@ -1,6 +1,7 @@
 use Rattle.std.proofs.Common.{ℕ, List, [], ◌++◌, Some, codes, refl, ap, subst, ◌∙◌}
 use Rattle.token_words.specs.Changes.{SetAt}
-use Rattle.session_seats.specs.Seats.{told_at, just_opened}
+use Rattle.session_seats.specs.Seats.{told_at}
+use Rattle.session_model.specs.Told.{just_opened}
 use Rattle.view_outside.specs.Files.{file_bytes}
 use Rattle.script_model.specs.declared.orders.Order.TheVariants as orders
 use Rattle.token_words.specs.PlainTokens.{words_seen}

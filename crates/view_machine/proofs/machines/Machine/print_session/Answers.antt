@@ -11,7 +11,8 @@ use Rattle.tier_model.specs.Tiers.{TierState}
 use Rattle.wish_board.specs.Boards.{BoardSeen}
 use Rattle.run_model.specs.Lines.{DidFrame, Does, frame_of}
 use Rattle.session_seats.specs.Orders.{FinishesRound}
-use Rattle.session_seats.specs.Seats.{SeatsSeen, SessionTold, at_seat, with_seat, AreSeated, IsDoneAt, told_at, one_frame_more}
+use Rattle.session_seats.specs.Seats.{SeatsSeen, at_seat, with_seat, AreSeated, IsDoneAt, told_at}
+use Rattle.session_model.specs.Told.{SessionTold, one_frame_more}
 use Rattle.view_machine.specs.Machines.{MachineSeen, world_of, state_in, KeepsPlace, IsMachine}
 use Rattle.view_machine.specs.MachineLaws.{KeepsMachine}
 use Rattle.view_machine.specs.LineEnds.{frames_at}

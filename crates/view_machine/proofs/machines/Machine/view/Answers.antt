@@ -1,6 +1,7 @@
 use Rattle.std.proofs.Common.{◌≡◌, ℕ, ◌+◌, ◌<◌, ◌≤◌, ◌^◌, List, [], ◌++◌, Some, codes, refl, sym, ap, subst, ◌∙◌, arith}
 use Rattle.token_words.specs.Changes.{SetAt}
-use Rattle.session_seats.specs.Seats.{SessionTold, told_at, told_view, AreSeated}
+use Rattle.session_seats.specs.Seats.{told_at, AreSeated}
+use Rattle.session_model.specs.Told.{SessionTold, told_view}
 use Rattle.session_seats.specs.Boards.{posted_on, posting_view, IsBoardFor}
 use Rattle.session_seats.specs.BoardLaws.{posted_version}
 use Rattle.wish_board.specs.Boards.{BoardSeen}
