@@ -1,24 +1,25 @@
 -- What a call does, where one session at its seat goes on.
-use Rattle.std.proofs.Common.{◌≡◌, ℕ, ◌-◌, ◌<◌, true, false, List, [], length, Option, Some, None, refl, sym, ap, subst, ◌∙◌}
+use Rattle.std.proofs.Common.{◌≡◌, ℕ, ◌-◌, true, false, List, [], Option, Some, None, sym, ap, subst, ◌∙◌}
 use Rattle.std.specs.Prelude.{slice_set}
 use Rattle.std.proofs.lemmas.Option.{same_Some}
 use Rattle.mesh_model.specs.Meshes.{MeshLists}
 use Rattle.round_model.specs.Views.{ViewSeen}
 use Rattle.script_model.specs.declared.orders.Order.TheVariants as orders
 use Rattle.session_model.specs.declared.steps.Stepped.{Stepped}
-use Rattle.session_model.specs.Sessions.{SessionState, is_left_over, settled}
+use Rattle.session_model.specs.Sessions.{SessionState, is_left_over, uses, settled}
 use Rattle.session_model.specs.Steps.{stepped, step}
+use Rattle.session_model.specs.StateLaws.{none_used}
 use Rattle.session_model.specs.Finishes.{Steps, NoStep, Finishes}
 use Rattle.token_words.specs.Changes.{Stays}
 use Rattle.token_words.specs.PlainTokens.{words_seen, epoch_in}
 use Rattle.token_words.specs.declared.plain_words.PlainTokens.{PlainTokens}
-use Rattle.run_model.specs.Lines.{DidStep, DidFree}
+use Rattle.run_model.specs.Lines.{DidStep}
 use Rattle.session_model.specs.Freeing.{FreesAll}
 use Rattle.session_seats.specs.declared.seat.Seat.{Seat}
 use Rattle.session_seats.specs.Seats.{SeatsSeen, at_seat, AreSeated, HasView, told_at}
 use Rattle.session_model.specs.Told.{session_told}
 use Rattle.session_seats.specs.SeatChanges.{ChangesSeat}
-use Rattle.session_seats.specs.Orders.{DoesOrder, ReachesSeats, FinishesRound, FreesUses}
+use Rattle.session_seats.specs.Orders.{DoesOrder, ReachesSeats, LacksRound, StopsStep, StopsRound, FinishesRound, FreesUses}
 use Rattle.session_seats.specs.SeatLaws.{seat_is, told_stays}
 use Rattle.session_seats.specs.OrderLaws.{steps, frees, stops}
 use Rattle.session_model.specs.ToldLaws.{told_settled, settled_flight, told_stepped, told_steps, told_finishes, told_frees}
@@ -83,6 +84,35 @@ module _ (mesh : MeshLists) (seats : List (Option Seat)) (words : PlainTokens) (
 
     pub finish_stops_told : SeatStopsAfter (words_seen words) old new → Stays (told_at (sessions_of seats)) (told_at (sessions_of after))
     finish_stops_told made = told (ap session_told made.is ∙ told_settled made.last ∙ told_steps old.session.mesh true (epoch_in (words_seen words)) (seat_state old) made.tries made.last made.steps)
+
+    -- ---- what stands where a round was to begin
+
+    lacking : (last : SessionState) → seat_state new ≡ settled last → (seat_state new).round ≡ None → ((p : ℕ) → is_left_over (seat_state new) p ≡ false) → (seat_state new).flight ≡ None → LacksRound i last (words_seen words) before (words_seen now) then
+    lacking last same no_round no_old no_flight =
+        let Moves : SessionState → Type 0 = λ t. ChangesSeat i (Some t) (words_seen words) (sessions_of seats) (words_seen now) (sessions_of after) in
+        let Unused : SessionState → Type 0 = λ t. (p : ℕ) → uses t p ≡ false in
+        record {
+          no_round = subst (λ (t : SessionState). t.round ≡ None) same no_round;
+          unused = subst Unused same (none_used (seat_state new) no_round no_old no_flight);
+          changes = subst Moves same moved;
+        }
+
+    pub step_lacks : SeatStops old new → StopsStep i (words_seen words) before (words_seen now) then
+    step_lacks made = record {
+      session = seat_state old;
+      was = old_state mesh seats words i old are seated at;
+      lacks = lacking (seat_state old) made.is made.no_round made.no_old made.no_flight;
+    }
+
+    pub finish_lacks : SeatStopsAfter (words_seen words) old new → StopsRound i (words_seen words) before (words_seen now) then
+    finish_lacks made = record {
+      session = seat_state old;
+      was = old_state mesh seats words i old are seated at;
+      tries = made.tries;
+      last = made.last;
+      steps = let P : MeshLists → Type 0 = λ m. Steps m true (epoch_in (words_seen words)) (seat_state old) made.tries made.last in subst P over made.steps;
+      lacks = lacking made.last made.is made.no_round made.no_old made.no_flight;
+    }
 
     -- ---- a round that is done
 

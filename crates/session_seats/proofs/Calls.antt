@@ -13,7 +13,7 @@ use Rattle.session_model.specs.Freeing.{FreesAll}
 use Rattle.session_seats.specs.declared.seat.Seat.{Seat}
 use Rattle.session_seats.specs.Seats.{SeatsSeen, at_seat, AreSeated, HasView, told_at}
 use Rattle.session_seats.specs.SeatChanges.{KeepsWords}
-use Rattle.session_seats.specs.Orders.{DoesOrder, ReachesSeats, FinishesRound, FreesUses}
+use Rattle.session_seats.specs.Orders.{DoesOrder, ReachesSeats, StopsStep, StopsRound, FinishesRound, FreesUses}
 use Rattle.session_seats.specs.SeatParts.{seat_state, sessions_of, AreSeats, HasPass}
 use Rattle.session_seats.specs.SeatSteps.{KeepsSeat, SeatSteps, SeatStops, SeatFinishes, SeatStopsAfter}
 use Rattle.session_seats.proofs.PartLaws.{found, missing, has_pass, changes, seated_then, are_seats_now}
@@ -100,6 +100,12 @@ module _ (mesh : MeshLists) (seats : List (Option Seat)) (seen : SeatsSeen) (sam
     pub steps_err : IfErr result (λ _. SeatStops old new) → OnErr result (ReachesSeats (words_seen words) seen (words_seen now) then)
     steps_err stops = on_err result (SeatStops old new) (ReachesSeats (words_seen words) seen (words_seen now) then) (λ one. reaches_seen (calls.step_stops mesh seats words i old f.are f.seated f.at now new keeps after refl (had_view has) one)) stops
 
+    pub steps_stop : IfErr result (λ _. SeatStops old new) → OnErr result (StopsStep i (words_seen words) seen (words_seen now) then)
+    steps_stop stops =
+        on_err result (SeatStops old new) (StopsStep i (words_seen words) seen (words_seen now) then)
+        (λ one. let P : SeatsSeen → Type 0 = λ x. StopsStep i (words_seen words) x (words_seen now) then in
+        subst P same (calls.step_lacks mesh seats words i old f.are f.seated f.at now new keeps after refl one)) stops
+
     pub steps_told : IfOk result (λ did. SeatSteps (words_seen words) old did new) → IfErr result (λ _. SeatStops old new) → Stays (told_at seen.sessions) (told_at (sessions_of after))
     steps_told made stops =
         either result (λ did. SeatSteps (words_seen words) old did new) (SeatStops old new) (Stays (told_at seen.sessions) (told_at (sessions_of after))) made stops
@@ -115,6 +121,12 @@ module _ (mesh : MeshLists) (seats : List (Option Seat)) (seen : SeatsSeen) (sam
 
     pub finish_err : IfErr result (λ _. SeatStopsAfter (words_seen words) old new) → OnErr result (ReachesSeats (words_seen words) seen (words_seen now) then)
     finish_err stops = on_err result (SeatStopsAfter (words_seen words) old new) (ReachesSeats (words_seen words) seen (words_seen now) then) (λ one. reaches_seen (calls.finish_stops mesh seats words i old f.are f.seated f.at now new keeps after refl (had_view has) one)) stops
+
+    pub finish_stops : IfErr result (λ _. SeatStopsAfter (words_seen words) old new) → OnErr result (StopsRound i (words_seen words) seen (words_seen now) then)
+    finish_stops stops =
+        on_err result (SeatStopsAfter (words_seen words) old new) (StopsRound i (words_seen words) seen (words_seen now) then)
+        (λ one. let P : SeatsSeen → Type 0 = λ x. StopsRound i (words_seen words) x (words_seen now) then in
+        subst P same (calls.finish_lacks mesh seats words i old f.are f.seated f.at now new keeps after refl one)) stops
 
     pub finish_told : IfOk result (λ _. SeatFinishes (words_seen words) old new) → IfErr result (λ _. SeatStopsAfter (words_seen words) old new) → Stays (told_at seen.sessions) (told_at (sessions_of after))
     finish_told made stops =

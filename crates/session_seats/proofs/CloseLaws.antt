@@ -1,5 +1,5 @@
 -- A session that uses nothing leaves its seat, and its view is taken off.
-use Rattle.std.proofs.Common.{◌≡◌, ℕ, ◌-◌, ◌<◌, ◌^◌, List, length, Option, Some, None, refl, sym, ap, subst, ◌∙◌}
+use Rattle.std.proofs.Common.{◌≡◌, ℕ, ◌-◌, ◌<◌, ◌^◌, List, Option, None, sym, ap, subst, ◌∙◌}
 use Rattle.std.specs.Prelude.{slice_set}
 use Rattle.mesh_model.specs.Meshes.{MeshLists}
 use Rattle.script_model.specs.declared.orders.Order.TheVariants as orders
@@ -10,7 +10,6 @@ use Rattle.wish_board.specs.Boards.{BoardSeen, without_view}
 use Rattle.run_model.specs.Lines.{DidClose}
 use Rattle.session_seats.specs.declared.seat.Seat.{Seat}
 use Rattle.session_seats.specs.Seats.{SeatsSeen, with_seat, AreSeated, told_at}
-use Rattle.session_model.specs.Told.{SessionTold}
 use Rattle.session_seats.specs.SeatChanges.{ChangesSeat}
 use Rattle.session_seats.specs.Boards.{IsBoardFor}
 use Rattle.session_seats.specs.Orders.{DoesPosting, FreesUses}

@@ -1,6 +1,5 @@
 mod PartLaws
 mod CallLaws
-mod FreeParts
 mod Calls
 mod SeenLaws
 mod OpenLaws

@@ -1,5 +1,5 @@
 -- A session opens at its seat.
-use Rattle.std.proofs.Common.{◌≡◌, ℕ, ◌-◌, Bool, false, ◌||◌, List, length, Option, Some, None, refl, sym, ap, subst, ◌∙◌}
+use Rattle.std.proofs.Common.{◌≡◌, ℕ, ◌-◌, Bool, false, ◌||◌, List, length, Option, Some, None, sym, ap, subst, ◌∙◌}
 use Rattle.std.specs.Prelude.{slice_set}
 use Rattle.std.proofs.lemmas.Option.{same_Some}
 use Rattle.mesh_model.specs.Meshes.{MeshLists}
@@ -23,7 +23,7 @@ use Rattle.session_seats.specs.Orders.{DoesOrder}
 use Rattle.session_seats.specs.SeatLaws.{seated_now, told_set}
 use Rattle.session_seats.specs.OrderLaws.{opens, keeps_words}
 use Rattle.session_model.specs.ToldLaws.{told_opened}
-use Rattle.session_seats.specs.SeatParts.{seat_state, IsSeat, AreSeats}
+use Rattle.session_seats.specs.SeatParts.{IsSeat, AreSeats}
 use Rattle.session_seats.proofs.PartLaws.{are_seats_set}
 use Rattle.session_seats.proofs.CallLaws.{seats_seen}
 use Rattle.session_seats.proofs.SeenLaws.{seen_many, set_seen}

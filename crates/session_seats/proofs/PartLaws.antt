@@ -1,5 +1,5 @@
 -- Seats inside, where one of them changes.
-use Rattle.std.proofs.Common.{◌≡◌, ◌≢◌, ℕ, zero, suc, ◌-◌, ◌<◌, ◌≤◌, Bool, List, length, get_or, map, Option, Some, None, refl, sym, ap, subst, ◌∙◌, arith, inl, inr}
+use Rattle.std.proofs.Common.{◌≡◌, ℕ, zero, suc, ◌-◌, ◌<◌, List, length, Option, Some, None, refl, sym, ap, subst, ◌∙◌, arith, inl, inr}
 use Rattle.std.specs.Prelude.{slice_index_or, slice_set}
 use Rattle.std.specs.Option.{option_map}
 use Rattle.std.proofs.lemmas.Bool.{cases_eq, cases_lt}
@@ -9,14 +9,13 @@ use Rattle.std.proofs.lemmas.Option.{same_Some}
 use Rattle.mesh_model.specs.Meshes.{MeshLists}
 use Rattle.session_model.specs.Sessions.{SessionState, locks, uses}
 use Rattle.session_model.specs.SessionStates.{IsSessionState}
-use Rattle.session_locks.specs.Sessions.{IsSession as IsOverMesh}
 use Rattle.token_words.specs.Sessions.{IsSession}
-use Rattle.token_words.specs.PlainTokens.{patch_count, words_seen, is_user, is_locker, session_of}
+use Rattle.token_words.specs.PlainTokens.{patch_count, words_seen, is_user, is_locker}
 use Rattle.token_words.specs.declared.plain_words.PlainTokens.{PlainTokens}
 use Rattle.token_words.specs.declared.session_sets.TheConstants.{SESSIONS}
 use Rattle.run_model.specs.States.{seat_uses}
 use Rattle.session_seats.specs.declared.seat.Seat.{Seat}
-use Rattle.session_seats.specs.Seats.{SeatsSeen, at_seat, AreSeated}
+use Rattle.session_seats.specs.Seats.{at_seat, AreSeated}
 use Rattle.session_seats.specs.SeatChanges.{KeepsWords, ChangesSeat}
 use Rattle.session_seats.specs.SeatLaws.{seat_is, seat_stays, seated_now}
 use Rattle.session_seats.specs.SeatParts.{seat_state, sessions_of, IsSeat, AreSeats, HasPass}

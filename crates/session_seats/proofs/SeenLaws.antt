@@ -1,5 +1,5 @@
 -- Seats as they are seen, where another session stands at one of them.
-use Rattle.std.proofs.Common.{◌≡◌, ℕ, zero, suc, ◌-◌, ◌<◌, List, [], length, replicate, Option, Some, None, is_some, refl, sym, ap, subst, ◌∙◌, arith, inl, inr}
+use Rattle.std.proofs.Common.{◌≡◌, ℕ, zero, suc, ◌-◌, List, [], length, replicate, Option, Some, None, is_some, refl, sym, ap, subst, ◌∙◌, arith, inl, inr}
 use Rattle.std.specs.Prelude.{slice_index_or, slice_set}
 use Rattle.std.specs.Option.{option_map}
 use Rattle.std.proofs.lemmas.Bool.{cases_lt}
@@ -8,9 +8,9 @@ use Rattle.std.proofs.lemmas.Option.{same_Some}
 use Rattle.mesh_model.specs.Meshes.{MeshLists}
 use Rattle.round_model.specs.Refiners.{Refining}
 use Rattle.round_model.specs.Views.{ViewSeen}
-use Rattle.session_model.specs.Sessions.{SessionState, locks, uses, round_ended, with_view, printed_once}
+use Rattle.session_model.specs.Sessions.{SessionState, locks, uses, round_ended, with_view, printed_once, counted_from}
 use Rattle.session_model.specs.SessionStates.{IsSessionState, like_uses}
-use Rattle.session_model.specs.StateLaws.{ended_like, viewed_is, viewed_locks, printed_is, printed_locks}
+use Rattle.session_model.specs.StateLaws.{counted_is, counted_uses, counted_locks, ended_like, viewed_is, viewed_locks, printed_is, printed_locks}
 use Rattle.session_locks.specs.Sessions.{SessionSeen, with_state}
 use Rattle.token_words.specs.Changes.{SetAt}
 use Rattle.token_words.specs.Sessions.{IsSession}
@@ -18,12 +18,12 @@ use Rattle.token_words.specs.declared.entries.Entry.{Entry}
 use Rattle.token_words.specs.declared.session_sets.TheConstants.{SESSIONS}
 use Rattle.session_seats.specs.declared.seat.Seat.{Seat}
 use Rattle.session_seats.specs.Seats.{SeatsSeen, at_seat, with_seat, AreSeated, told_at}
-use Rattle.session_model.specs.Told.{SessionTold, session_told, told_view, one_frame_more}
+use Rattle.session_model.specs.Told.{SessionTold, session_told, told_view, one_frame_more, told_from}
 use Rattle.session_seats.specs.SeatChanges.{ChangesSeat}
 use Rattle.session_seats.specs.SeatLaws.{seated_now, told_set}
 use Rattle.session_seats.specs.OrderLaws.{same_uses, printed_uses}
-use Rattle.session_model.specs.ToldLaws.{told_viewed, told_printed}
-use Rattle.session_seats.specs.SeatParts.{seat_state, sessions_of, IsSeat, AreSeats}
+use Rattle.session_model.specs.ToldLaws.{told_viewed, told_printed, told_counted}
+use Rattle.session_seats.specs.SeatParts.{seat_state, IsSeat, AreSeats}
 use Rattle.session_seats.proofs.PartLaws.{at_sessions, sessions_set, sessions_many, seat_read, seat_number, are_seats_set}
 use Rattle.session_seats.proofs.CallLaws.{seats_seen}
 use Rattle.session_seats.proofs.Calls.{there, found_seat}
@@ -120,6 +120,9 @@ module _ (seen : SeatsSeen) (many : length seen.sessions ≡ SESSIONS) (i : ℕ)
   pub seated_printed : (words : List Entry) → AreSeated seen.mesh words seen.sessions → (new : SeatsSeen) → new ≡ with_seat seen i (Some (printed_once s)) → AreSeated new.mesh words new.sessions
   seated_printed words are new goes = seated_as words are (printed_once s) (printed_is seen.mesh s (are.are i s at)) (printed_uses s) (printed_locks s) new goes
 
+  pub seated_counted : (frames : ℕ) (words : List Entry) → AreSeated seen.mesh words seen.sessions → (new : SeatsSeen) → new ≡ with_seat seen i (Some (counted_from frames s)) → AreSeated new.mesh words new.sessions
+  seated_counted frames words are new goes = seated_as words are (counted_from frames s) (counted_is seen.mesh s frames (are.are i s at)) (counted_uses s frames) (counted_locks s frames) new goes
+
   pub viewed_uses : (view : ViewSeen) → IsSessionState seen.mesh s → (p : ℕ) → uses (with_view view s) p ≡ uses s p
   unfolding with_view
   viewed_uses view is p = like_uses s (round_ended s) (ended_like seen.mesh s is) p
@@ -138,3 +141,6 @@ module _ (seen : SeatsSeen) (many : length seen.sessions ≡ SESSIONS) (i : ℕ)
 
   pub told_as_viewed : (view : ViewSeen) (told : SessionTold) → told_at seen.sessions i ≡ Some told → (new : SeatsSeen) → new ≡ with_seat seen i (Some (with_view view s)) → SetAt (told_at seen.sessions) i (Some (told_view told view)) (told_at new.sessions)
   told_as_viewed view told tells new goes = told_as (with_view view s) (λ (x : SessionTold). told_view x view) (told_viewed s view) told tells new goes
+
+  pub told_as_counted : (frames : ℕ) (told : SessionTold) → told_at seen.sessions i ≡ Some told → (new : SeatsSeen) → new ≡ with_seat seen i (Some (counted_from frames s)) → SetAt (told_at seen.sessions) i (Some (told_from told frames)) (told_at new.sessions)
+  told_as_counted frames told tells new goes = told_as (counted_from frames s) (λ (x : SessionTold). told_from x frames) (told_counted s frames) told tells new goes

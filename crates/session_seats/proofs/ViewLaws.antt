@@ -1,5 +1,5 @@
 -- A session's view is set and posted.
-use Rattle.std.proofs.Common.{◌≡◌, ℕ, ◌<◌, ◌^◌, List, length, Option, Some, None, sym, ap, subst, ◌∙◌}
+use Rattle.std.proofs.Common.{◌≡◌, ℕ, ◌<◌, ◌^◌, List, length, Some, sym, ap, subst}
 use Rattle.mesh_model.specs.Meshes.{MeshLists}
 use Rattle.round_model.specs.Views.{ViewSeen}
 use Rattle.script_model.specs.declared.orders.Order.TheVariants as orders

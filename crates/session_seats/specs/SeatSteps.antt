@@ -1,15 +1,13 @@
 -- What the steps of one session do, where its pass is one of the plain words.
-use Rattle.std.specs.Prelude.{◌≡◌, ◌⊎◌, ℕ, ◌<◌, true, false, List, Option, Some, None, length}
+use Rattle.std.specs.Prelude.{◌≡◌, ℕ, true, false, List, None}
 use Rattle.token_words.specs.declared.entries.Entry.{Entry}
 use Rattle.token_words.specs.declared.plain_words.PlainTokens.{PlainTokens}
 use Rattle.token_words.specs.PlainTokens.{words_seen, epoch_in, session_of}
 use Rattle.session_model.specs.declared.steps.Stepped.{Stepped}
-use Rattle.session_model.specs.Sessions.{SessionState, is_left_over, uses, settled}
-use Rattle.session_model.specs.Steps.{stepped, step, IsOfEpochs, freed, free_step}
-use Rattle.session_model.specs.SessionStates.{IsSessionState}
+use Rattle.session_model.specs.Sessions.{SessionState, is_left_over, settled}
+use Rattle.session_model.specs.Steps.{stepped, step, IsOfEpochs}
 use Rattle.session_model.specs.DoneRounds.{HasDone}
 use Rattle.session_model.specs.Finishes.{Steps, Finishes}
-use Rattle.session_model.specs.Freeing.{Frees}
 use Rattle.session_locks.specs.Sessions.{IsSession}
 use Rattle.session_seats.specs.declared.seat.Seat.{Seat}
 use Rattle.session_seats.specs.SeatChanges.{KeepsWords}
@@ -30,9 +28,10 @@ pub record SeatSteps (words : List Entry) (old : Seat) (did : Stepped) (new : Se
   pub is : stepped did (seat_state new) ≡ step old.session.mesh (seat_state old) epoch
   pub of_epochs : IsOfEpochs (epoch_in words) did
 
--- a printed round ended, and nothing is locked or in flight
+-- a printed round ended, there is no round, and nothing is locked or in flight
 pub record SeatStops (old new : Seat) : Type 0 where
   pub is : seat_state new ≡ settled (seat_state old)
+  pub no_round : (seat_state new).round ≡ None
   pub no_old : (p : ℕ) → is_left_over (seat_state new) p ≡ false
   pub no_flight : (seat_state new).flight ≡ None
 
@@ -42,16 +41,12 @@ pub record SeatFinishes (words : List Entry) (old new : Seat) : Type 0 where
   pub finishes : Finishes old.session.mesh true (epoch_in words) (seat_state old) tries (seat_state new)
   pub done : HasDone (seat_state new)
 
--- steps, and then a printed round ended
+-- steps, and then a printed round ended, where another was to begin
 pub record SeatStopsAfter (words : List Entry) (old new : Seat) : Type 0 where
   pub tries : List (ℕ × ℕ)
   pub last : SessionState
   pub steps : Steps old.session.mesh true (epoch_in words) (seat_state old) tries last
   pub is : seat_state new ≡ settled last
+  pub no_round : (seat_state new).round ≡ None
   pub no_old : (p : ℕ) → is_left_over (seat_state new) p ≡ false
   pub no_flight : (seat_state new).flight ≡ None
-
--- a step towards no use
-pub record SeatFrees (old : Seat) (did : Option Stepped) (new : Seat) : Type 0 where
-  pub is : freed did (seat_state new) ≡ free_step (seat_state old)
-  pub frees : Frees (seat_state old) did (seat_state new)

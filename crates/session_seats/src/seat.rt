@@ -7,7 +7,7 @@ ghost use Rattle.session_locks.specs.Sessions.{session_of as session_over};
 ghost use Rattle.token_words.specs.Sessions.{IsSession};
 ghost use Rattle.token_words.specs.PlainTokens.{words_seen, is_user, is_locker, session_of};
 ghost use Rattle.token_words.specs.declared.session_sets.TheConstants.{SESSIONS as GREATEST};
-ghost use Rattle.session_model.specs.Freeing.{unlocks_in, FreesAll};
+ghost use Rattle.session_model.specs.Freeing.{FreesAll};
 
 use accepted_mesh::Mesh;
 use grid_vertex::NoMemory;
@@ -24,7 +24,7 @@ pub struct Seat<'m> {
 
 impl<'m> Seat<'m> {
     ghost use Rattle.session_seats.specs.SeatParts.{HasPass};
-    ghost use Rattle.session_seats.specs.SeatSteps.{KeepsSeat, SeatSteps, SeatStops, SeatFinishes, SeatStopsAfter, SeatFrees};
+    ghost use Rattle.session_seats.specs.SeatSteps.{KeepsSeat, SeatSteps, SeatStops, SeatFinishes, SeatStopsAfter};
 
     /// Session `number`, which uses no patch yet.
     pub fn open(
@@ -75,31 +75,7 @@ impl<'m> Seat<'m> {
         ensures frees { FreesAll self.old.session.state result self.new.session.state }
         ensures keeps { KeepsSeat words.old self.old words.new self.new }
     {
-        let _number = self.session.number();
-        let mut unlocks = 0;
-        'frees: while let Some(did) = self.free_step(words) {
-            unlocks += unlock_count(did);
-        }
-        unlocks
-    }
-
-    /// Takes a step towards no use; none exactly where there is no use.
-    fn free_step(&mut self, words: &mut PlainTokens) -> Option<Stepped>
-        requires pass { HasPass words.old self.old }
-        ensures step { SeatFrees self.old result self.new }
-        ensures keeps { KeepsSeat words.old self.old words.new self.new }
-    {
-        self.session.free_step(words, &mut self.pass)
-    }
-}
-
-/// 1 for a step in which an old lock was given back.
-fn unlock_count(did: Stepped) -> u64
-    ensures { result ≡ unlocks_in did }
-{
-    match did {
-        Stepped::Unlocked(_) => 1,
-        Stepped::Tried(..) | Stepped::Withdrew(_) | Stepped::GaveBack(_) | Stepped::Done => 0,
+        self.session.free_all(words, &mut self.pass)
     }
 }
 

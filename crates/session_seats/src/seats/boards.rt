@@ -1,6 +1,6 @@
 //! Views of sessions, on the board too, and sessions that close.
 
-ghost use Rattle.std.specs.Prelude.{◌≡◌, ℕ, ◌^◌, ◌<◌, List, Some, None, OnOk, OnErr};
+ghost use Rattle.std.specs.Prelude.{◌≡◌, ◌^◌, ◌<◌, List, Some, None, OnOk, OnErr};
 ghost use Rattle.script_model.specs.declared.orders.Order.TheVariants as orders;
 ghost use Rattle.session_model.specs.Sessions.{SessionState, with_view};
 ghost use Rattle.token_words.specs.Changes.{SetAt};

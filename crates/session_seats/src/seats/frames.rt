@@ -1,12 +1,12 @@
 //! Frames of a session at its seat.
 
-ghost use Rattle.std.specs.Prelude.{◌≡◌, ℕ, ◌^◌, ◌<◌, List, length, Some};
-ghost use Rattle.session_model.specs.Sessions.{SessionState, printed_once};
+ghost use Rattle.std.specs.Prelude.{◌≡◌, ◌^◌, ◌<◌, List, length, Some};
+ghost use Rattle.session_model.specs.Sessions.{SessionState, printed_once, counted_from};
 ghost use Rattle.token_words.specs.Changes.{SetAt};
 ghost use Rattle.token_words.specs.declared.entries.Entry.{Entry};
 ghost use Rattle.token_words.specs.declared.session_sets.TheConstants.{SESSIONS};
 ghost use Rattle.session_seats.specs.Seats.{at_seat, with_seat, AreSeated, HasRound, IsOpen, IsDoneAt, told_at};
-ghost use Rattle.session_model.specs.Told.{SessionTold, one_frame_more};
+ghost use Rattle.session_model.specs.Told.{SessionTold, told_from, one_frame_more};
 
 use crate::seats::Seats;
 use cut_refiner::Refiner;
@@ -56,6 +56,24 @@ impl<'m> Seats<'m> {
     {
         match &mut self.seats[session as usize - 1] {
             Some(seat) => seat.session.printed(),
+            None => unreachable!(),
+        }
+    }
+
+    /// The session counts its frames on from this number. Condition: it is open.
+    pub fn count_from(&mut self, session: u32, frames: u64)
+        requires { IsOpen self.old.sessions session }
+        ensures counted { (s : SessionState) → at_seat self.old.sessions session ≡ Some s
+            → self.new ≡ with_seat self.old session (Some (counted_from frames s)) }
+        ensures seated { (words : List Entry) → AreSeated self.old.mesh words self.old.sessions
+            → AreSeated self.new.mesh words self.new.sessions }
+        ensures told { (told : SessionTold) → told_at self.old.sessions session ≡ Some told
+            → SetAt (told_at self.old.sessions) session (Some (told_from told frames))
+            (told_at self.new.sessions) }
+        ensures facts { length self.old.sessions ≡ SESSIONS }
+    {
+        match &mut self.seats[session as usize - 1] {
+            Some(seat) => seat.session.count_from(frames),
             None => unreachable!(),
         }
     }

@@ -1,13 +1,13 @@
 //! Steps of a session at its seat.
 
-ghost use Rattle.std.specs.Prelude.{◌≡◌, ℕ, OnOk, OnErr, IfOk};
+ghost use Rattle.std.specs.Prelude.{◌≡◌, OnOk, OnErr, IfOk};
 ghost use Rattle.script_model.specs.declared.orders.Order.TheVariants as orders;
 ghost use Rattle.token_words.specs.Changes.{Stays};
 ghost use Rattle.token_words.specs.PlainTokens.{words_seen};
 ghost use Rattle.run_model.specs.Lines.{DidStep, DidFree};
 ghost use Rattle.session_seats.specs.Seats.{AreSeated, IsOpen, HasView, told_at};
 ghost use Rattle.session_seats.specs.SeatChanges.{KeepsWords};
-ghost use Rattle.session_seats.specs.Orders.{DoesOrder, ReachesSeats, FinishesRound, FreesUses};
+ghost use Rattle.session_seats.specs.Orders.{DoesOrder, ReachesSeats, StopsStep, StopsRound, FinishesRound, FreesUses};
 
 use crate::Stepped;
 use crate::seats::Seats;
@@ -18,7 +18,7 @@ use token_words::PlainTokens;
 impl<'m> Seats<'m> {
     /// The session takes one step. Condition: it is open and has a view.
     ///
-    /// NoMemory comes only where a round was to begin: there is none then, and the session has nothing locked.
+    /// NoMemory comes only where a round was to begin: there is none then, and the session uses nothing.
     pub fn step(
         &mut self,
         alloc: Global,
@@ -33,6 +33,8 @@ impl<'m> Seats<'m> {
             (words_seen words.new) self.new) }
         ensures none { OnErr result
             (ReachesSeats (words_seen words.old) self.old (words_seen words.new) self.new) }
+        ensures stops { OnErr result
+            (StopsStep session (words_seen words.old) self.old (words_seen words.new) self.new) }
         ensures seated { AreSeated self.new.mesh (words_seen words.new) self.new.sessions }
         ensures words { KeepsWords session (words_seen words.old) (words_seen words.new) }
         ensures told { Stays (told_at self.old.sessions) (told_at self.new.sessions) }
@@ -46,7 +48,8 @@ impl<'m> Seats<'m> {
 
     /// The session takes steps until its round is done. Condition: it is open and has a view.
     ///
-    /// After NoMemory the steps that were made stay, and there is no round; the session has nothing locked.
+    /// NoMemory comes only where a round was to begin: the steps that were made stay, there is no round, and the session
+    /// uses nothing.
     pub fn finish(
         &mut self,
         alloc: Global,
@@ -60,6 +63,8 @@ impl<'m> Seats<'m> {
             self.new) }
         ensures none { OnErr result
             (ReachesSeats (words_seen words.old) self.old (words_seen words.new) self.new) }
+        ensures stops { OnErr result
+            (StopsRound session (words_seen words.old) self.old (words_seen words.new) self.new) }
         ensures seated { AreSeated self.new.mesh (words_seen words.new) self.new.sessions }
         ensures words { KeepsWords session (words_seen words.old) (words_seen words.new) }
         ensures told { Stays (told_at self.old.sessions) (told_at self.new.sessions) }

@@ -1,4 +1,4 @@
-use Rattle.session_seats.proofs.Calls.{found_by, none_missing, pass_found, view_in, still_seats, still_seated, keeps_words, finish_ok, finish_err, finish_told}
+use Rattle.session_seats.proofs.Calls.{found_by, none_missing, pass_found, view_in, still_seats, still_seated, keeps_words, finish_ok, finish_err, finish_stops, finish_told}
 use Rattle.session_seats.proofs.CallLaws.{old_view}
 use Rattle.session_seats.proofs.seats.Seats.finish.Goals as goal
 
@@ -36,6 +36,12 @@ returns-clause-none c =
     let i = c.self.inside in
     let f = found_by i.mesh.now.lists i.seats.items c.args.self.now c.self.view_is c.self.invariant c.args.session c.requires.view.session c.requires.view.at c.index_mut.result.now c.index_mut.ensures.value c.args.words.now c.requires.seated c.in-Some.seat c.in-Some.is in
     finish_err i.mesh.now.lists i.seats.items c.args.self.now c.self.view_is c.args.words.now c.args.session c.in-Some.seat f c.finish.new.words c.finish.new.self c.finish.ensures.keeps c.finish.result c.requires.view c.finish.ensures.none
+
+pub returns-clause-stops : goal.returns-clause-stops
+returns-clause-stops c =
+    let i = c.self.inside in
+    let f = found_by i.mesh.now.lists i.seats.items c.args.self.now c.self.view_is c.self.invariant c.args.session c.requires.view.session c.requires.view.at c.index_mut.result.now c.index_mut.ensures.value c.args.words.now c.requires.seated c.in-Some.seat c.in-Some.is in
+    finish_stops i.mesh.now.lists i.seats.items c.args.self.now c.self.view_is c.args.words.now c.args.session c.in-Some.seat f c.finish.new.words c.finish.new.self c.finish.ensures.keeps c.finish.result c.requires.view c.finish.ensures.none
 
 pub returns-clause-seated : goal.returns-clause-seated
 returns-clause-seated c =
