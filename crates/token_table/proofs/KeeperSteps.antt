@@ -17,7 +17,8 @@ use Rattle.token_table.specs.declared.knowledge.Ended.{Ended}
 use Rattle.token_table.specs.declared.knowledge.Desk.{Desk}
 use Rattle.token_table.specs.declared.knowledge.View.{View}
 use Rattle.token_table.specs.declared.knowledge.View.TheVariants.{Session, Keeper}
-use Rattle.token_table.specs.Known.{has, AreTries, IsHolder, IsGuest, IsDesk, total, uses_of, own_uses, of_guest, one_if, desk_allowance, desk_numbers}
+use Rattle.token_words.specs.Tries.{AreTries}
+use Rattle.token_table.specs.Known.{has, IsHolder, IsGuest, IsDesk, total, uses_of, own_uses, of_guest, one_if, desk_allowance, desk_numbers}
 use Rattle.token_table.specs.WordRule.{IsKept, Holds}
 use Rattle.token_table.specs.Changes.{with_risen, after_eviction, Admits, Evicts, Watches, seated}
 use Rattle.token_table.proofs.Totals.{total-at}

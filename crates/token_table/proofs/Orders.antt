@@ -2,7 +2,7 @@
 use Rattle.std.proofs.Common.{◌≡◌, ℕ, ◌≤◌, List, [], ◌∷◌, ◌++◌, get_or, ap, arith}
 use Rattle.std.specs.List.{All}
 use Rattle.std.proofs.lemmas.List.Elements.{All-nil, All-head, All-tail, All-push, All-weaker}
-use Rattle.token_table.specs.Known.{AreTries, IsInOrder, IsSeen, Rise}
+use Rattle.token_words.specs.Tries.{AreTries, IsInOrder, IsSeen, Rise}
 
 rise_more : (epochs : List ℕ) (tries : List (ℕ × ℕ)) (p : ℕ) → All (IsSeen epochs) tries → Rise tries
     → Rise (tries ++ (p, get_or epochs p 0) ∷ [])

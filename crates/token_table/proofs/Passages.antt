@@ -13,7 +13,8 @@ use Rattle.token_table.specs.declared.knowledge.Ended.{Ended}
 use Rattle.token_table.specs.declared.knowledge.Desk.{Desk}
 use Rattle.token_table.specs.declared.knowledge.View.{View}
 use Rattle.token_table.specs.declared.knowledge.View.TheVariants.{Spent, Session, Keeper}
-use Rattle.token_table.specs.Known.{has, AreTries, IsHolder, IsDesk, total, own_uses, one_if, desk_allowance, is_made, of_guest}
+use Rattle.token_words.specs.Tries.{AreTries}
+use Rattle.token_table.specs.Known.{has, IsHolder, IsDesk, total, own_uses, one_if, desk_allowance, is_made, of_guest}
 use Rattle.token_table.specs.WordRule.{IsKept, Holds, opened_at}
 use Rattle.token_table.specs.Changes.{newcomer, with_made, with_guest, with_ended, making, made_next, welcoming, ending, alone, leaving}
 use Rattle.token_table.proofs.Totals.{total-push}

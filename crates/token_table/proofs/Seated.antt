@@ -13,7 +13,8 @@ use Rattle.token_table.specs.declared.knowledge.Ended.{Ended}
 use Rattle.token_table.specs.declared.knowledge.Desk.{Desk}
 use Rattle.token_table.specs.declared.knowledge.View.{View}
 use Rattle.token_table.specs.declared.knowledge.View.TheVariants.{Spent, Session, Keeper}
-use Rattle.token_table.specs.Known.{has, without, IsDesk, AreTries}
+use Rattle.token_words.specs.Tries.{AreTries}
+use Rattle.token_table.specs.Known.{has, without, IsDesk}
 use Rattle.token_table.specs.WordRule.{Holds}
 use Rattle.token_table.specs.Changes.{seated, after_try, after_leave, with_guest, with_ended, Tries, Leaves, Admits, Evicts, Watches, welcoming, ending, alone, leaving, making, made_next}
 use Rattle.token_table.specs.Seats.{SessionSeen, own_in, desk_in, IsSeatOf, IsAtDesk}

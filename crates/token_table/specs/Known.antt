@@ -2,6 +2,7 @@
 use Rattle.std.specs.Prelude.{◌≡◌, ℕ, ◌+◌, ◌-◌, ◌≤◌, Bool, true, not, ◌&&◌, List, [], ◌∷◌, length, slice_index, Option, Some, None, if◌then◌else◌, nat_eq, nat_le, All}
 use Rattle.std.specs.List.{list_any, filter}
 use Rattle.file_model.specs.Tries.{is_odd}
+use Rattle.token_words.specs.Tries.{AreTries}
 use Rattle.token_table.specs.declared.knowledge.Own.{Own}
 use Rattle.token_table.specs.declared.knowledge.Desk.{Desk}
 use Rattle.token_table.specs.declared.knowledge.View.{View}
@@ -23,24 +24,6 @@ one_if b = if b then 1 else 0
 unfoldable pub total : {A : Type 0} → (A → ℕ) → List A → ℕ
 total f [] = 0
 total f (x ∷ xs) = f x + total f xs
-
--- of one patch, the earlier try has at most the epoch of the later one
-abbrev pub IsInOrder : ℕ × ℕ → ℕ × ℕ → Type 0
-IsInOrder earlier later = later.0 ≡ earlier.0 → earlier.1 ≤ later.1
-
--- along the tries the epochs of one patch don't fall
-unfoldable pub Rise : List (ℕ × ℕ) → Type 0
-Rise [] = Unit {0}
-Rise (earlier ∷ later) = All (IsInOrder earlier) later × Rise later
-
--- a try has at most the epoch that its patch has now
-abbrev pub IsSeen : List ℕ → ℕ × ℕ → Type 0
-IsSeen epochs try = try.1 ≤ slice_index epochs try.0
-
--- tries, in their order, of patches that have these epochs now
-pub record AreTries (epochs : List ℕ) (tries : List (ℕ × ℕ)) : Type 0 where
-  pub seen : All (IsSeen epochs) tries
-  pub rise : Rise tries
 
 -- a session's locks are uses of patches that are there
 pub record IsHolder (epochs : List ℕ) (own : Own) : Type 0 where

@@ -40,3 +40,18 @@ impl Model for KeeperSeat {
 
     ghost invariant = { λ s. IsAtDesk s.seat.table_id s.seat.me s.epochs.items };
 }
+
+impl KeeperSeat {
+    ghost use Rattle.std.specs.Prelude.{◌≡◌, length};
+    ghost use Rattle.token_table.specs.Known.{IsDesk};
+
+    /// How many patches have a word. What the keeper knows of them fits together, whether or not a session ever
+    /// came.
+    pub fn patch_count(&self) -> usize
+        ensures count { result ≡ length self.now.desk.epochs }
+        ensures words { result ≡ self.now.table.words }
+        ensures fits { IsDesk self.now.desk }
+    {
+        self.epochs.len()
+    }
+}

@@ -36,7 +36,8 @@ impl TokenTable {
     ghost use Rattle.file_model.specs.Tries.{is_odd};
     ghost use Rattle.token_words.specs.Evictions.{NeedsUse, uses_found};
     ghost use Rattle.token_words.specs.declared.keeping.TheConstants.{LAST_EPOCH};
-    ghost use Rattle.token_table.specs.Known.{has, IsDesk, AreTries};
+    ghost use Rattle.token_words.specs.Tries.{AreTries};
+    ghost use Rattle.token_table.specs.Known.{has, IsDesk};
     ghost use Rattle.token_table.specs.Changes.{after_try, after_leave, with_risen, after_eviction, with_ended};
     ghost use Rattle.token_table.specs.Seats.{IsSeatOf};
 

@@ -1,7 +1,8 @@
 use Rattle.std.proofs.Common.{sym, ap, subst, ◌∙◌}
 use Rattle.token_table.specs.declared.knowledge.Own.{Own}
 use Rattle.token_table.specs.declared.knowledge.Desk.{Desk}
-use Rattle.token_table.specs.Known.{has, AreTries}
+use Rattle.token_words.specs.Tries.{AreTries}
+use Rattle.token_table.specs.Known.{has}
 use Rattle.token_table.specs.Changes.{with_ended}
 use Rattle.token_table.specs.Seats.{SessionSeen, KeeperSeen, own_in, desk_in}
 use Rattle.token_table.proofs.Seated.{end_asks, watch_asks, ended, last_ended}
