@@ -77,6 +77,23 @@ unfoldable pub lost_in : List Turn → ℕ
 lost_in [] = 0
 lost_in (t ∷ ts) = is_lost t + lost_in ts
 
+-- 1 for a turn in which a body broke the rule that it met at the check
+unfoldable pub is_change : Turn → ℕ
+is_change (Changed p fault) = 1
+is_change (Reserve p) = 0
+is_change (Evict p) = 0
+is_change (Kept p uses) = 0
+is_change (Got p) = 0
+is_change (Lost p) = 0
+is_change (Fault p) = 0
+is_change (Commit p) = 0
+is_change Idle = 0
+
+-- how often a body did
+unfoldable pub changes_in : List Turn → ℕ
+changes_in [] = 0
+changes_in (t ∷ ts) = is_change t + changes_in ts
+
 -- the entry that a turn leaves in the journal: all but `Kept` and `Idle` leave one
 unfoldable pub entries_of : Turn → List Turn
 entries_of (Kept p uses) = []

@@ -7,6 +7,7 @@ pub mod Answers
 pub mod Turns
 pub mod Ties
 pub mod Counts
+pub mod JournalCounts
 pub mod Chains
 pub mod Settling
 pub mod ComingLaws
