@@ -27,9 +27,9 @@ triangles_in-take_more value xs i d within =
     ∙ ap (λ t. triangles_in (map value (take i xs)) ++ t) (append-nil (of_body (value (get_or xs i d))))
 
 -- the lines of a frame in order
-pub Adds-frame : (open_edges : ℕ) (frame : Frame) {a b c d e f : List ℕ} → Adds a b (head_line open_edges frame) → Adds b c (cut_line frame.cut) → Adds c d (tries_line frame.tries) → Adds d e (patches_line frame.patches) → Adds e f (flat_map triangle_line frame.triangles) → Adds a f (frame_text open_edges frame)
+pub Adds-frame : (open_edges : ℕ) (frame : Frame) {a b c d : List ℕ} → Adds a b (head_line open_edges frame) → Adds b c (cut_line frame.cut ++ (tries_line frame.tries ++ patches_line frame.patches)) → Adds c d (flat_map triangle_line frame.triangles) → Adds a d (frame_text open_edges frame)
 unfolding frame_text front_lines
-Adds-frame open_edges frame head cut tries patches triangles = Adds-then (Adds-then head (Adds-then cut (Adds-then tries patches))) triangles
+Adds-frame open_edges frame head front triangles = Adds-then (Adds-then head front) triangles
 
 -- the line of one triangle more
 pub Adds-triangle : (triangles : List Triangle) (i : ℕ) (triangle : Triangle) {a b c : List ℕ} → slice_get triangles i ≡ Some triangle → Adds a b (flat_map triangle_line (take i triangles)) → Adds b c (triangle_line triangle) → Adds a c (flat_map triangle_line (take (i + 1) triangles))

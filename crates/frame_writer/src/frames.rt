@@ -1,10 +1,10 @@
 //! The text of a frame.
 
-ghost use Rattle.std.specs.Prelude.{◌≡◌, ◌≤◌, true, List, [], length, map, OnOk, OnErr};
+ghost use Rattle.std.specs.Prelude.{◌≡◌, ◌≤◌, true, List, [], ◌++◌, length, map, OnOk, OnErr};
 ghost use Rattle.std.specs.Arc.{arc_value};
 ghost use Rattle.edge_chain.specs.Chains.{IsNetOf};
 ghost use Rattle.file_model.specs.Lists.{SeenBody};
-ghost use Rattle.text_model.specs.FrameText.{head_line, tries_line};
+ghost use Rattle.text_model.specs.FrameText.{head_line, cut_line, tries_line, patches_line};
 ghost use Rattle.text_model.specs.Lines.{Adds, begins_line, line_of, decimals};
 ghost use Rattle.frame_writer.specs.Appending.{Begins};
 ghost use Rattle.frame_writer.specs.Frames.{AreBodiesOf, AddsFrame, frame_of, triangles_in};
@@ -82,6 +82,23 @@ fn write_tries(alloc: Global, tries: &[Try], out: &mut Vec<u8>) -> Result<(), No
     end_line(alloc, out)
 }
 
+/// Appends the lines of a frame's cut, answers and patches, or a beginning of them.
+pub fn write_front(
+    alloc: Global,
+    cut: &[u32],
+    tries: &[Try],
+    patches: &[u32],
+    out: &mut Vec<u8>,
+) -> Result<(), NoMemory>
+    ensures ok { OnOk result (Adds out.old.items out.new.items
+        (cut_line cut.now ++ (tries_line tries.now ++ patches_line patches.now))) }
+    ensures err { OnErr result (Begins out.old.items out.new.items) }
+{
+    write_numbers(alloc, "cut", cut, out)?;
+    write_tries(alloc, tries, out)?;
+    write_numbers(alloc, "patches", patches, out)
+}
+
 /// Appends the frame's text, or a beginning of it.
 fn write_frame(
     alloc: Global,
@@ -103,9 +120,7 @@ fn write_frame(
 {
     let chain = edges_of(alloc, bodies)?;
     write_head(alloc, session, number, cut, patches, &chain, out)?;
-    write_numbers(alloc, "cut", cut, out)?;
-    write_tries(alloc, tries, out)?;
-    write_numbers(alloc, "patches", patches, out)?;
+    write_front(alloc, cut, tries, patches, out)?;
     write_bodies(alloc, bodies, out)
 }
 

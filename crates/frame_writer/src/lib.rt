@@ -14,7 +14,7 @@ mod refused;
 mod words;
 
 pub use faults::add_file_fault;
-pub use frames::frame_text;
+pub use frames::{frame_text, write_front};
 pub use lines::{add_line, add_part, add_parts, begin_line, end_line, line_text};
 pub use parts::Part;
 pub use refused::undo_if_refused;

@@ -5,7 +5,7 @@ use Rattle.std.specs.Map.{keys_of}
 use Rattle.std.specs.Arc.{arc_value}
 use Rattle.edge_chain.specs.NetLaws.{open_from_net}
 use Rattle.text_model.specs.Lines.{begins_line}
-use Rattle.text_model.specs.FrameText.{head_line, cut_line, patches_line, frame_text}
+use Rattle.text_model.specs.FrameText.{head_line, frame_text}
 use Rattle.frame_writer.specs.Frames.{AddsFrame, frame_of, triangles_in}
 use Rattle.frame_writer.proofs.FrameLemmas.{Adds-frame}
 use Rattle.frame_writer.specs.Appending.{Adds-ended}
@@ -13,7 +13,7 @@ use Rattle.frame_writer.specs.Ending.{begins_line-frame_text}
 use Rattle.frame_writer.proofs.frames.write_frame.Goals as goal
 
 pub returns-clause-ok : goal.returns-clause-ok
-unfolding head_line cut_line patches_line
+unfolding head_line
 returns-clause-ok c =
     let a = c.args in
     let seen = map arc_value a.bodies.now in
@@ -26,7 +26,7 @@ returns-clause-ok c =
         counted = record { pairs = keys_of chain.entries; are_open = open_from_net (triangles_in seen) chain c.in_ok-chain.ensures; number = length-keys_of chain.entries };
         is = refl;
       };
-      adds = Adds-frame (length chain.entries) frame (c.in_ok-write_head.ensures.ok seen c.in_ok-chain.ensures) c.in_ok-write_numbers.ensures.ok c.in_ok-write_tries.ensures.ok c.in_ok-write_numbers-2.ensures.ok lines;
+      adds = Adds-frame (length chain.entries) frame (c.in_ok-write_head.ensures.ok seen c.in_ok-chain.ensures) c.in_ok-write_front.ensures.ok lines;
     }) c.write_bodies.ensures.ok
 
 pub returns-clause-ended : goal.returns-clause-ended
