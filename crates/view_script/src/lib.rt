@@ -15,6 +15,10 @@ mod words;
 pub use refusals::ScriptRefusal;
 pub use script_model::{Line, MOST_SCRIPT, Mode, Order};
 pub use scripts::{Script, read_script};
+pub use sessions::Sessions;
+pub use spelling::spelt;
+pub use views::count_at;
+pub use words::{is_text, word_at, words_of};
 
 #[cfg(test)]
 mod tests;
