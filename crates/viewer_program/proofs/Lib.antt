@@ -6,5 +6,6 @@ pub mod PlayWords
 pub mod RunFailures
 pub mod RunLemmas
 pub mod TakenLemmas
+pub mod WideLemmas
 pub mod SpeltLemmas
 pub mod StillLemmas

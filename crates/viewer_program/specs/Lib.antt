@@ -5,6 +5,7 @@ pub mod Refusals
 pub mod Endings
 pub mod Told
 pub mod Outside
+pub mod WideTold
 pub mod Numbered
 pub mod Telling
 pub mod Strips

@@ -11,6 +11,7 @@ ghost use Rattle.text_model.specs.declared.statuses.Status.TheVariants as status
 ghost use Rattle.viewer_program.specs.declared.commands.Command.TheVariants.{Convert};
 ghost use Rattle.viewer_program.specs.Answers.{IsTextOfKind};
 ghost use Rattle.viewer_program.specs.Endings.{CanStop, IsChange};
+ghost use Rattle.viewer_program.specs.WideTold.{IsBehindBodies};
 ghost use Rattle.viewer_program.specs.Outputs.{output_text, IsWritable, GivesOutput};
 
 use crate::outputs::Output;
@@ -39,6 +40,8 @@ pub fn convert_output<S: Store>(
     ensures writable { IfOk result IsWritable }
     ensures stop { IfErr result (CanStop (Convert version)) }
     ensures changed { IfErr result IsChange }
+    ensures wide { IfErr result
+        (IsBehindBodies mesh.now.lists.index (S.taken store.old) (S.taken store.new)) }
     ensures store { OnlyRead statuses.ReadFault (S.files store.old) (S.files store.new)
         (S.faults store.old) (S.faults store.new) result }
 {

@@ -10,6 +10,7 @@ ghost use Rattle.text_model.specs.declared.statuses.Status.TheVariants as status
 ghost use Rattle.viewer_program.specs.Commands.{IsKnown};
 ghost use Rattle.viewer_program.specs.Answers.{IsTextOf, IsOfAccepted, IsTextOfKind};
 ghost use Rattle.viewer_program.specs.Endings.{StopsAt, CanStop, IsChange};
+ghost use Rattle.viewer_program.specs.WideTold.{IsBehindBodies, IsBehindLoads};
 ghost use Rattle.viewer_program.specs.Outputs.{output_text, IsWritable, text_output, lines_output, GivesOutput};
 
 use crate::commands::Command;
@@ -72,6 +73,8 @@ fn output_of<S: Store>(
     ensures writable { IfOk result IsWritable }
     ensures stop { IfErr result (CanStop command.now) }
     ensures changed { IfErr result IsChange }
+    ensures wide { IfErr result
+        (IsBehindBodies mesh.now.lists.index (S.taken store.old) (S.taken store.new)) }
     ensures store { OnlyRead statuses.ReadFault (S.files store.old) (S.files store.new)
         (S.faults store.old) (S.faults store.new) result }
 {
@@ -104,6 +107,8 @@ pub fn command_output<S: Store>(
     ensures writable { IfOk result IsWritable }
     ensures stop { IfErr result (CanStop command.now) }
     ensures changed { IfErr result IsChange }
+    ensures wide { IfErr result (IsBehindLoads (file_bytes (S.files store.old) file)
+        (S.taken store.old) (S.taken store.new)) }
     ensures store { OnlyRead statuses.ReadFault (S.files store.old) (S.files store.new)
         (S.faults store.old) (S.faults store.new) result }
 {

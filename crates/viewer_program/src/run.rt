@@ -14,6 +14,7 @@ ghost use Rattle.viewer_program.specs.Outside.{outside_seen};
 ghost use Rattle.viewer_program.specs.StillEnds.{StillEnds};
 ghost use Rattle.viewer_program.specs.Strips.{strip_command_in, IsStripOutput, IsForMemory};
 ghost use Rattle.viewer_program.specs.Told.{named_bytes};
+ghost use Rattle.viewer_program.specs.WideTold.{IsBehindLoads};
 
 use crate::commands::{Command, command_of, file_name};
 use crate::outputs::{Output, command_output};
@@ -54,6 +55,8 @@ fn run_command<S: Store, O: Sink>(
     ensures statuses { Ends (IsTextOfKind command.now) (CanStop command.now) result (O.written sink.old)
         (O.written sink.new) }
     ensures changed { IsChange result }
+    ensures wide { IsBehindLoads (named_bytes (S.files store.old) name.now) (S.taken store.old)
+        (S.taken store.new) result }
     ensures quiet { IsQuiet result (O.written sink.old) (O.written sink.new) }
     ensures read_fault { OnlyIf ReadFault
         (HasName (S.files store.old) name.now → Rose (S.faults store.old) (S.faults store.new))
