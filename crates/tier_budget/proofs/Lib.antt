@@ -12,3 +12,5 @@ pub mod SumLaws
 pub mod StartLaws
 pub mod SoundLaws
 pub mod Ranking
+mod WordSteps
+mod HoldsSteps

@@ -1,5 +1,7 @@
 pub mod Pasts
 pub mod JournalView
+pub mod PatchSets
+pub mod MissingView
 pub mod Heads
 pub mod Marked
 pub mod MarksView

@@ -1,11 +1,12 @@
 -- What callers see of a tier, and what holds of it.
-use Rattle.std.specs.Prelude.{◌≡◌, ℕ, ◌<◌, ◌≤◌, Bool, is_some, vec_capacity}
+use Rattle.std.specs.Prelude.{◌≡◌, ℕ, ◌<◌, ◌≤◌, Bool, List, is_some, vec_capacity}
 use Rattle.std.specs.List.{count_by}
 use Rattle.tier_model.specs.declared.turns.Turn.{Turn}
 use Rattle.tier_model.specs.Places.{Needs}
-use Rattle.tier_model.specs.Tiers.{TierState, count, places, load, pinned_bytes, IsTier}
+use Rattle.tier_model.specs.Tiers.{TierState, count, is_held, places, load, pinned_bytes, IsTier}
 use Rattle.tier_budget.specs.Heads.{bodies_in}
 use Rattle.tier_budget.specs.Heaps.{IsLeaving, IsMissing}
+use Rattle.tier_budget.specs.PatchSets.{HasAll}
 use Rattle.tier_budget.specs.declared.tiers.Tier.TheInside.{Inside}
 
 -- a tier, for how many more entries its journal has room, and whether it keeps its journal
@@ -51,8 +52,14 @@ pub record IsSoundTier (s : TierState) (bytes pinned held capacity : ℕ) : Type
   pub room : 0 < count s → s.width ≤ capacity
   pub few : count s ≤ 65536
 
--- a sound tier, with the heaps of the patches that may leave and of those that are missing
+-- the set lacks no patch that is held
+abbrev pub Holds : TierState → List ℕ → Type 0
+Holds s words = HasAll (count s) (is_held s) words
+
+-- a sound tier, with the heaps of the patches that may leave and of those that are missing, and the set of those
+-- that are held
 pub record IsTierInside (t : Inside) : Type 0 where
   pub sound : IsSoundTier (state_of t) t.load t.pinned_bytes t.held_count (vec_capacity t.coming)
   pub leaving : IsLeaving (state_of t) t.leaving
   pub missing : IsMissing (state_of t) t.missing
+  pub holds : Holds (state_of t) t.holds

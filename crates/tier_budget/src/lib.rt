@@ -15,7 +15,9 @@ mod leaving;
 mod lists;
 mod marks;
 mod missing;
+mod missing_heap;
 mod past;
+mod patch_words;
 mod tiers;
 mod wishes;
 

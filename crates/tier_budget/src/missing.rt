@@ -7,9 +7,9 @@ ghost use Rattle.tier_budget.specs.Heaps.{missing_told, IsHeapOf, Refreshes};
 
 use crate::coming::comes;
 use crate::marks::{Marks, has_mark};
+use crate::missing_heap::MissingHeap;
 use patch_file::Body;
 use std::sync::Arc;
-use tier_heap::PairHeap;
 use tier_model::Coming;
 
 /// The rank of a patch that is missing, None of one that isn't.
@@ -38,7 +38,7 @@ pub fn rank_of_missing(
 
 /// The listed patches are put aside no more.
 pub fn seek_again(
-    missing: &mut PairHeap,
+    missing: &mut MissingHeap,
     listed: &[u32],
     wishes: &[u64],
     base: &[bool],
@@ -61,7 +61,7 @@ pub fn seek_again(
 
 /// Each patch has its rank.
 pub fn rank_missing(
-    missing: &mut PairHeap,
+    missing: &mut MissingHeap,
     wishes: &[u64],
     base: &[bool],
     held: &[Option<Arc<Body>>],

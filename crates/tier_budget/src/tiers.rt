@@ -3,6 +3,8 @@
 use crate::journals::Journal;
 use crate::lists::{base_patches, body_sizes, no_bodies};
 use crate::marks::{Marks, has_mark};
+use crate::missing_heap::MissingHeap;
+use crate::patch_words::PatchWords;
 use grid_vertex::NoMemory;
 use patch_file::{Body, Index};
 use std::alloc::Global;
@@ -33,7 +35,8 @@ pub struct Tier {
     coming: Vec<Coming>,
     journal: Journal,
     leaving: PairHeap,
-    missing: PairHeap,
+    missing: MissingHeap,
+    holds: PatchWords,
 }
 
 impl Model for Tier {
@@ -126,7 +129,8 @@ impl Tier {
             coming: Vec::with_capacity(alloc, width as usize)?,
             journal: Journal::new(alloc, records),
             leaving: PairHeap::with_ids(alloc, patches)?,
-            missing: PairHeap::with_ids(alloc, patches)?,
+            missing: MissingHeap::with_patches(alloc, patches)?,
+            holds: PatchWords::with_patches(alloc, patches)?,
         })
     }
 
@@ -269,7 +273,8 @@ impl MadeWith<Global> for Tier {
             coming: Vec::new(alloc),
             journal: Journal::new(alloc, true),
             leaving: PairHeap::new(alloc),
-            missing: PairHeap::new(alloc),
+            missing: MissingHeap::new(alloc),
+            holds: PatchWords::new(alloc),
         }
     }
 }

@@ -34,6 +34,7 @@ impl Tier {
         let patch = body.patch();
         let size = body.size();
         self.held[patch as usize] = Some(body);
+        self.holds.insert(patch);
         self.pinned[patch as usize] = true;
         self.missing.set(patch, None);
         self.held_count += 1;
@@ -96,6 +97,7 @@ impl Tier {
         };
         let body = self.came[patch as usize].take();
         self.held[patch as usize] = body;
+        self.holds.insert(patch);
         self.held_count += 1;
         take_out(&mut self.coming, patch);
         let is_passed = self.passed.has(patch);
@@ -146,6 +148,7 @@ impl Tier {
         ensures records { self.new.records ≡ self.old.records }
     {
         self.held[patch as usize] = None;
+        self.holds.remove(patch);
         self.held_count -= 1;
         self.load -= self.sizes[patch as usize];
         self.leaving.set(patch, None);

@@ -1,6 +1,6 @@
 //! Which patch a tier takes next, and which it gives up.
 
-ghost use Rattle.std.specs.Prelude.{◌≡◌, ℕ, ◌<◌, true, MatchOption};
+ghost use Rattle.std.specs.Prelude.{◌≡◌, ℕ, ◌<◌, true, false, MatchOption};
 ghost use Rattle.tier_model.specs.Tiers.{count, kept_wish, is_held};
 ghost use Rattle.tier_model.specs.Ranks.{outranks};
 ghost use Rattle.tier_model.specs.Choices.{Chooses, ChoosesBy, OrAnswers, is_missing, may_leave};
@@ -20,6 +20,23 @@ impl Tier {
         ensures records { self.new.records ≡ self.old.records }
     {
         self.missing.greatest_where(fits)
+    }
+
+    /// Whether a patch may be missing that the tier below holds. False only where it holds none of the
+    /// missing ones. It asks 64 patches at once, and so takes far less time than to ask for each.
+    pub fn may_take_from(&self, below: &Tier) -> bool
+        ensures { result ≡ false → (p : ℕ) → p < count self.now.state
+            → is_missing self.now.state p ≡ true → is_held below.now.state p ≡ false }
+    {
+        self.missing.words().meets(&below.holds)
+    }
+
+    /// Whether a patch is missing.
+    pub fn misses_any(&self) -> bool
+        ensures { result ≡ false → (p : ℕ) → p < count self.now.state
+            → is_missing self.now.state p ≡ false }
+    {
+        !self.missing.is_empty()
     }
 
     /// The lowest of the patches that are held, neither pinned nor passed over, and below the given one.

@@ -102,6 +102,7 @@ invariant_of-self c =
       leaving = leaving_moved (aborted old p c.args.why) _ _ (is_aborted c)
           (leaving-aborted old p c.args.why c.self.inside.leaving heap);
       missing = missing_moved (aborted old p c.args.why) _ _ (is_aborted c) (rw c.set.ensures (missing-aborted old p c.args.why c.rank_of_missing-rank.result c.self.inside.missing (is_told c) absent));
+      holds = c.self.invariant.holds;
     }
 
 pub returns-clause-state : goal.returns-clause-state

@@ -44,6 +44,7 @@ invariant_of-self c =
           (leaving-arrived old c.args.body.value.patch c.args.body.value c.self.inside.leaving heap);
       missing = missing_moved (arrived old c.args.body.value.patch c.args.body.value) _ _ (returns-clause-state c)
           (missing-arrived old c.args.body.value.patch c.args.body.value c.self.inside.missing absent);
+      holds = c.self.invariant.holds;
     }
 
 pub returns-clause-kept : goal.returns-clause-kept

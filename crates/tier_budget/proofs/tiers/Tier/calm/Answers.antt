@@ -38,6 +38,7 @@ invariant_of-self c =
       leaving = leaving_moved (calmed s) _ _ (is_calmed c)
           (leaving-calmed s c.listed.result.now told c.self.inside.leaving c.put_back.new.leaving c.listed.ensures is_told c.put_back.ensures c.self.invariant.leaving);
       missing = missing_moved (calmed s) _ _ (is_calmed c) (missing-calmed s c.self.inside.missing c.self.invariant.missing);
+      holds = c.self.invariant.holds;
     }
 
 pub returns-clause-kept : goal.returns-clause-kept

@@ -16,6 +16,8 @@ use Rattle.tier_budget.proofs.Equations.{committed_is}
 use Rattle.tier_budget.proofs.Writes.{body_written, body_read, has_place, has_item, at_some}
 use Rattle.tier_budget.proofs.SoundLaws.{sound_of_view, sound_moved, sound-committed}
 use Rattle.tier_budget.proofs.LeavingSteps.{told_same, leaving_moved, leaving_of_view, leaving-committed}
+use Rattle.tier_budget.proofs.WordSteps.{room_for}
+use Rattle.tier_budget.proofs.HoldsSteps.{holds_moved, holds_of_view, holds-committed}
 use Rattle.tier_budget.proofs.MissingSteps.{missing_moved, missing_of_view, missing-committed}
 use Rattle.tier_budget.proofs.tiers.Tier.commit.Goals as goal
 use Rattle.tier_budget.proofs.tiers.Tier.commit.Goals.{In-Some}
@@ -106,6 +108,9 @@ invariant_of-self c =
       leaving = leaving_moved (committed old c.in-Some.patch) _ _ (is_committed c)
           (rw c.set.ensures (leaving-committed old c.in-Some.patch c.rank_to_leave-rank.result c.self.inside.leaving (is_told c) heap));
       missing = missing_moved (committed old c.in-Some.patch) _ _ (is_committed c) (missing-committed old c.in-Some.patch c.self.inside.missing sound.tier (comes_within old c.in-Some.patch sound.tier comes) comes came absent);
+      holds = holds_moved (committed old c.in-Some.patch) _ _ (is_committed c)
+          (holds-committed old c.in-Some.patch c.self.inside.holds _ c.insert.ensures.has c.insert.ensures.others c.insert.ensures.room
+          (holds_of_view (tier_view c.self.inside) c.args.self.now c.self.inside.holds c.self.view_is c.self.invariant.holds));
     }
 
 pub returns-clause-state : goal.returns-clause-state
@@ -113,3 +118,6 @@ returns-clause-state c = at_some _ _ c.in-Some.patch (first_of_old c) (is_commit
 
 pub returns-clause-kept : goal.returns-clause-kept
 returns-clause-kept c = (invariant_of-self c).sound.tier
+
+pub insert-requires : goal.insert-requires
+insert-requires c = room_for _ _ c.in-Some.patch c.self.invariant.holds.room (within (goal.at.insert-requires c).In-Some)

@@ -13,6 +13,8 @@ use Rattle.tier_budget.proofs.SumLaws.{size_read, marked_within}
 use Rattle.tier_budget.proofs.Writes.{body_written, has_item}
 use Rattle.tier_budget.proofs.SoundLaws.{sound_of_view, sound_moved, sound-dropped, counted}
 use Rattle.tier_budget.proofs.LeavingSteps.{leaving_moved, leaving_of_view, leaving-dropped}
+use Rattle.tier_budget.proofs.WordSteps.{room_for}
+use Rattle.tier_budget.proofs.HoldsSteps.{holds_moved, holds_of_view, holds-dropped}
 use Rattle.tier_budget.proofs.MissingSteps.{told_same, missing_moved, missing_of_view, missing-dropped}
 use Rattle.tier_budget.proofs.tiers.Tier.drop_held.Goals as goal
 use Rattle.tier_budget.proofs.tiers.Tier.drop_held.Goals.{After-index}
@@ -63,6 +65,9 @@ invariant_of-self c =
       leaving = leaving_moved (dropped old c.args.patch) _ _ (returns-clause-state c)
           (rw c.set.ensures (leaving-dropped old c.args.patch c.self.inside.leaving sound.tier within heap));
       missing = missing_moved (dropped old c.args.patch) _ _ (returns-clause-state c) (rw c.set-2.ensures (missing-dropped old c.args.patch c.rank_of_missing-rank.result c.self.inside.missing is_told absent));
+      holds = holds_moved (dropped old c.args.patch) _ _ (returns-clause-state c)
+          (holds-dropped old c.args.patch c.self.inside.holds _ c.remove.ensures.others c.remove.ensures.room
+          (holds_of_view (tier_view c.self.inside) c.args.self.now c.self.inside.holds c.self.view_is c.self.invariant.holds));
     }
 
 pub returns-clause-kept : goal.returns-clause-kept
@@ -103,3 +108,9 @@ set-requires-2 c =
     let there = within (goal.at.set-requires-2 c).After-index in
     let many = c.self.invariant.missing.all_patches in
     omega arith
+
+pub remove-requires : goal.remove-requires
+remove-requires c =
+    let sound = sound_of_view (tier_view c.self.inside) c.args.self.now c.self.inside.load c.self.inside.pinned_bytes c.self.inside.held_count c.self.inside.coming.cap c.self.view_is c.self.invariant.sound in
+    let holds = holds_of_view (tier_view c.self.inside) c.args.self.now c.self.inside.holds c.self.view_is c.self.invariant.holds in
+    room_for _ _ c.args.patch holds.room (marked_within c.args.self.now.state c.args.patch _ sound.tier c.requires.needs.1)

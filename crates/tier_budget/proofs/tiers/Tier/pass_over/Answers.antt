@@ -28,6 +28,7 @@ invariant_of-self c =
       leaving = leaving_moved (passed_over old c.args.patch) _ _ (returns-clause-state c)
           (rw c.set.ensures (leaving-passed_over old c.args.patch c.self.inside.leaving sound.tier c.requires heap));
       missing = missing_moved (passed_over old c.args.patch) _ _ (returns-clause-state c) (missing-passed_over old c.args.patch c.self.inside.missing absent);
+      holds = c.self.invariant.holds;
     }
 
 pub returns-clause-kept : goal.returns-clause-kept

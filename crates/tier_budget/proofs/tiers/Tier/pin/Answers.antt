@@ -1,5 +1,5 @@
 -- The body is held and pinned.
-use Rattle.std.proofs.Common.{◌≡◌, ◌+◌, length, ap, ◌∙◌, refl, arith, true, Some, None}
+use Rattle.std.proofs.Common.{◌≡◌, ◌+◌, length, ap, subst, ◌∙◌, refl, arith, true, Some, None}
 use Rattle.std.specs.Prelude.{slice_set}
 use Rattle.std.proofs.lemmas.Option.{slice_get_within}
 use Rattle.file_model.specs.Lists.{SeenBody}
@@ -10,6 +10,9 @@ use Rattle.tier_budget.proofs.Equations.{with_pin_is}
 use Rattle.tier_budget.proofs.Writes.{body_written}
 use Rattle.tier_budget.proofs.SoundLaws.{sound_of_view, sound_moved, sound-with_pin, pinned_within}
 use Rattle.tier_budget.proofs.LeavingSteps.{leaving_moved, leaving_of_view, leaving-with_pin}
+use Rattle.tier_budget.specs.PatchSets.{HasPatch}
+use Rattle.tier_budget.proofs.WordSteps.{room_for}
+use Rattle.tier_budget.proofs.HoldsSteps.{holds_moved, holds_of_view, holds-with_pin}
 use Rattle.tier_budget.proofs.MissingSteps.{missing_moved, missing_of_view, missing-with_pin}
 use Rattle.tier_budget.proofs.tiers.Tier.pin.Goals as goal
 
@@ -45,6 +48,9 @@ invariant_of-self c =
       leaving = leaving_moved (with_pin old c.args.body.value) _ _ (returns-clause-state c)
           (leaving-with_pin old c.args.body.value c.self.inside.leaving sound.tier c.requires.away heap);
       missing = missing_moved (with_pin old c.args.body.value) _ _ (returns-clause-state c) (rw (c.set.ensures, patch) (missing-with_pin old c.args.body.value c.self.inside.missing c.requires.away absent));
+      holds = holds_moved (with_pin old c.args.body.value) _ _ (returns-clause-state c)
+          (holds-with_pin old c.args.body.value c.self.inside.holds _ (subst (HasPatch c.insert.new.self) patch c.insert.ensures.has) c.insert.ensures.others c.insert.ensures.room
+          (holds_of_view (tier_view c.self.inside) c.args.self.now c.self.inside.holds c.self.view_is c.self.invariant.holds));
     }
 
 pub returns-clause-kept : goal.returns-clause-kept
@@ -59,3 +65,12 @@ set-requires c =
     let held = sound.tier.sized.held in
     let many = absent.all_patches in
     omega arith
+
+pub insert-requires : goal.insert-requires
+insert-requires c =
+    let patch : c.patch-patch.result ≡ c.args.body.value.patch = c.patch-patch.ensures.patch ∙ ap (λ (b : SeenBody). b.patch) c.deref.ensures in
+    let sound = sound_of_view (tier_view c.self.inside) c.args.self.now c.self.inside.load c.self.inside.pinned_bytes c.self.inside.held_count c.self.inside.coming.cap c.self.view_is c.self.invariant.sound in
+    let holds = holds_of_view (tier_view c.self.inside) c.args.self.now c.self.inside.holds c.self.view_is c.self.invariant.holds in
+    let within = slice_get_within c.args.self.now.state.held c.args.body.value.patch None c.requires.away in
+    let held = sound.tier.sized.held in
+    room_for _ _ c.patch-patch.result holds.room (omega arith)

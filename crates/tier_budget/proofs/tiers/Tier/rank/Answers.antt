@@ -61,6 +61,7 @@ invariant_of-self g c =
       missing = heap_kept (count s) absent (missing_at (record s { wishes = now })) c.rank_missing.new.missing
           (λ p within. seen_same _ now _ s.base _ s.held _ s.coming _ (is_marked s.aside p) p c.deref-4.ensures.value c.deref-5.ensures.value (ap bodies_in c.deref-6.ensures.value) c.deref-7.ensures.value refl)
           (subst (λ (n : ℕ). IsHeapOf n absent c.rank_missing.new.missing) c.self.invariant.missing.all_patches c.rank_missing.ensures);
+      holds = c.self.invariant.holds;
     }
 
 pub returns-clause-kept : goal.returns-clause-kept

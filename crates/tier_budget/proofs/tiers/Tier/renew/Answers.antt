@@ -45,6 +45,7 @@ invariant_of-self c =
           (sound-renewed old c.args.version _ _ _ _ (sound_moved s (calmed old) _ _ _ _ _ _ _ _ (sym (is_calm before)) refl refl refl refl c.self.invariant.sound));
       leaving = c.self.invariant.leaving;
       missing = missing-renewed s c.args.version c.clear.new.self c.listed.result.now told c.self.inside.missing c.seek_again.new.missing (none_is_aside before) c.listed.ensures is_told c.seek_again.ensures c.self.invariant.missing;
+      holds = c.self.invariant.holds;
     }
 
 pub returns-clause-kept : goal.returns-clause-kept

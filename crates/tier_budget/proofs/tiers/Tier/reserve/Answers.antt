@@ -29,6 +29,7 @@ invariant_of-self c =
       leaving = leaving_moved (reserved old c.args.patch) _ _ (returns-clause-state c)
           (leaving-reserved old c.args.patch c.self.inside.leaving heap);
       missing = missing_moved (reserved old c.args.patch) _ _ (returns-clause-state c) (rw c.set.ensures (missing-reserved old c.args.patch c.self.inside.missing absent));
+      holds = c.self.invariant.holds;
     }
 
 pub returns-clause-kept : goal.returns-clause-kept

@@ -6,6 +6,7 @@ use Rattle.tier_budget.specs.Heads.{bodies_in}
 use Rattle.tier_budget.proofs.Equations.{fresh_is}
 use Rattle.tier_budget.proofs.SoundLaws.{sound_moved, sound-fresh}
 use Rattle.tier_budget.proofs.LeavingSteps.{leaving_moved, leaving-fresh}
+use Rattle.tier_budget.proofs.HoldsSteps.{holds_moved, holds-fresh}
 use Rattle.tier_budget.proofs.MissingSteps.{missing_moved, missing-fresh}
 use Rattle.tier_budget.proofs.tiers.TierMadeWithGlobal.made_with.Goals as goal
 
@@ -22,4 +23,5 @@ invariant_of-result c =
           (sound-fresh empty 0 1 0 (record { some_come = omega arith; few_come = omega arith }) (omega arith) (λ some. absurd (omega arith)));
       leaving = leaving_moved (fresh empty 0 1) _ c.new-11.result is (leaving-fresh empty 0 1 c.new-11.result c.new-11.ensures);
       missing = missing_moved (fresh empty 0 1) _ c.new-12.result is (missing-fresh empty 0 1 c.new-12.result c.new-12.ensures);
+      holds = holds_moved (fresh empty 0 1) _ c.new-13.result is (holds-fresh empty 0 1 c.new-13.result (omega arith));
     }
