@@ -84,12 +84,7 @@ impl Tier {
 
     /// The same, but the tier doesn't keep its journal, which contracts alone know. No other call of such a
     /// tier takes memory.
-    pub fn silent(
-        alloc: Global,
-        index: &Index,
-        budget: u64,
-        width: u32,
-    ) -> Result<Tier, NoMemory>
+    pub fn silent(alloc: Global, index: &Index, budget: u64, width: u32) -> Result<Tier, NoMemory>
         requires { IsWidth width }
         ensures state { IfOk result (λ tier. tier.state ≡ fresh index.now budget width) }
         ensures records { IfOk result (λ tier. tier.records ≡ false) }

@@ -1,20 +1,21 @@
 -- Each step of a turn, against the rules.
-use Rattle.std.proofs.Common.{◌≡◌, ℕ, suc, ◌+◌, ◌-◌, ◌<◌, ◌≤◌, Bool, true, false, not, cond, leb, ltb, [], length, zero, Option, Some, None, MatchOption, Result, Ok, Err, IfOk, IfSome, refl, sym, ap, subst, ◌∙◌, arith}
+use Rattle.std.proofs.Common.{◌≡◌, ℕ, suc, ◌+◌, ◌-◌, ◌<◌, ◌≤◌, Bool, true, false, not, ◌&&◌, ◌||◌, cond, leb, ltb, [], length, zero, Option, Some, None, MatchOption, Result, Ok, Err, IfOk, IfSome, refl, sym, ap, subst, ◌∙◌, arith}
 use Rattle.std.specs.Option.{option_and_then}
 use Rattle.std.proofs.lemmas.Bool.{cond_both, cond-true, cond-false, leb-true, le-leb, ltb-true, lt-ltb}
 use Rattle.std.proofs.lemmas.Option.{same_Some}
 use Rattle.file_model.specs.declared.faults.FileFault.{FileFault}
 use Rattle.file_model.specs.Lists.{SeenBody}
+use Rattle.token_words.specs.declared.keeping.TheConstants.{LAST_EPOCH}
 use Rattle.token_words.specs.declared.answers.Evict.TheVariants as evicted
 use Rattle.tier_model.specs.declared.turns.Abort.TheVariants as reasons
 use Rattle.tier_model.specs.declared.turns.Turn.{Turn}
 use Rattle.tier_model.specs.declared.turns.Turn.TheVariants.{Reserve, Evict, Kept, Got, Lost, Fault, Changed, Commit, Idle}
 use Rattle.tier_model.specs.Places.{first_coming, first_bare, Needs}
-use Rattle.tier_model.specs.Tiers.{TierState, count, size, load, places, body_at, IsTier}
+use Rattle.tier_model.specs.Tiers.{TierState, count, size, load, pinned_bytes, places, body_at, IsTier}
 use Rattle.tier_model.specs.Changes.{reserved, arrived, aborted, committed, dropped, passed_over, calmed}
-use Rattle.tier_model.specs.Choices.{Told, candidate, victim}
+use Rattle.tier_model.specs.Choices.{Told, is_missing, candidate, victim}
 use Rattle.tier_model.specs.Turns.{Outcome, fetched_in, uses_in, outcome_in, paired, fitting, entering, leaving, fetching, evicting, leave_or_idle, commit_or, fetch_or, reserve_or, ranked_turn_of, IsRankedTurn}
-use Rattle.tier_model.specs.Chosen.{candidate_is_highest, IsVictim, victim_is_lowest}
+use Rattle.tier_model.specs.Chosen.{candidate-is, candidate_is_highest, IsVictim, victim_is_lowest}
 use Rattle.tier_model.specs.ComingLaws.{bare_comes}
 use Rattle.tier_model.specs.BodyLaws.{not_there_is_away, away_is_unmarked}
 use Rattle.tier_model.specs.Follows.{enters_from}
@@ -22,6 +23,17 @@ use Rattle.tier_model.specs.TurnLaws.{body_arrived}
 use Rattle.transfer_step.specs.TurnWords.{sought}
 
 -- ---- the candidate
+
+none_fits : (missing room has top : Bool) → (missing ≡ true → has ≡ false) → (missing && (room && (has && top))) ≡ false
+none_fits false room has top none = refl
+none_fits true false has top none = refl
+none_fits true true has top none = rw (none refl) refl
+
+-- there is none where the tier below has no missing patch
+pub none_served : (told : Told) (s : TierState) → ((p : ℕ) → p < count s → is_missing s p ≡ true → told.has p ≡ false) → None ≡ candidate told s
+none_served told s none =
+    candidate-is told s None
+    (λ p within. none_fits (is_missing s p) (leb (size s p) (s.budget - pinned_bytes s)) (told.has p) (not told.top || ltb (told.epochs p) LAST_EPOCH) (none p within))
 
 pub fitting_there : (s : TierState) (p n : ℕ) → n ≡ size s p → load s ≤ s.budget → n ≤ s.budget - load s → Some p ≡ fitting s (Some p)
 unfolding fitting

@@ -78,6 +78,9 @@ fn find_candidate<B: Supply, K: Keeper>(
     ensures spare { tier.new.spare ≡ tier.old.spare }
     ensures records { tier.new.records ≡ tier.old.records }
 {
+    if !below.may_serve(tier) {
+        return None;
+    }
     let room = tier.budget().saturating_sub(tier.pinned_bytes());
     find_missing(
         tier,

@@ -12,6 +12,7 @@ use grid_vertex::NoMemory;
 use patch_file::{Index, read_body};
 use std::alloc::Global;
 use std::sync::Arc;
+use tier_budget::Tier;
 use view_outside::Store;
 
 /// A file in a store as a supply of the lowest tier: it has every patch of the file's index.
@@ -51,6 +52,10 @@ impl<'i, 's, S: Store> Supply for StoreSupply<'i, 's, S> {
 
     fn has(&self, _patch: u32) -> bool {
         true
+    }
+
+    fn may_serve(&self, tier: &Tier) -> bool {
+        tier.misses_any()
     }
 
     fn fetch(&mut self, alloc: Global, patch: u32) -> Result<Fetch, NoMemory> {

@@ -1,15 +1,17 @@
 //! What lies below a tier.
 
-ghost use Rattle.std.specs.Prelude.{◌≡◌, ℕ, ◌<◌, ◌≤◌, Bool, true, not, List, length, slice_index, IfOk};
+ghost use Rattle.std.specs.Prelude.{◌≡◌, ℕ, ◌<◌, ◌≤◌, Bool, true, false, not, List, length, slice_index, IfOk};
 ghost use Rattle.file_model.specs.declared.faults.FileFault.{FileFault};
 ghost use Rattle.file_model.specs.Lists.{SeenBody};
-ghost use Rattle.tier_model.specs.Tiers.{IsBodyFor};
+ghost use Rattle.tier_model.specs.Tiers.{count, IsBodyFor};
+ghost use Rattle.tier_model.specs.Choices.{is_missing};
 ghost use Rattle.view_outside.specs.Faults.{Rose};
 ghost use Rattle.transfer_step.specs.Fetches.{is_lost, IfBody, IfFault, IfChanged, TakesUpTo};
 
 use crate::fetches::Fetch;
 use grid_vertex::NoMemory;
 use std::alloc::Global;
+use tier_budget::Tier;
 
 /// What lies below a tier: the next tier, or the store.
 pub trait Supply {
@@ -41,6 +43,11 @@ pub trait Supply {
     fn has(&self, patch: u32) -> bool
         requires { patch < length (sizes (place self.now)) }
         ensures { result ≡ has (place self.now) patch };
+
+    /// Whether a patch that the tier misses may be there. False only where none of them is.
+    fn may_serve(&self, tier: &Tier) -> bool
+        ensures { result ≡ false → (p : ℕ) → p < count tier.now.state
+            → is_missing tier.now.state p ≡ true → has (place self.now) p ≡ false };
 
     /// Fetches the body of a patch.
     fn fetch(&mut self, alloc: Global, patch: u32) -> Result<Fetch, NoMemory>

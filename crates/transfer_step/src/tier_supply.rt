@@ -38,6 +38,10 @@ impl<'a> Supply for TierSupply<'a> {
         self.tier.held(patch).is_some()
     }
 
+    fn may_serve(&self, tier: &Tier) -> bool {
+        tier.may_take_from(self.tier)
+    }
+
     fn fetch(&mut self, _alloc: Global, patch: u32) -> Result<Fetch, NoMemory> {
         match self.tier.held(patch) {
             Some(body) => Ok(Fetch::Body(body.clone()?)),
