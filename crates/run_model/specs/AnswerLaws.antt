@@ -1,20 +1,19 @@
 -- From what a turn of a tier promises to what it does in a state.
-use Rattle.std.proofs.Common.{◌≡◌, ℕ, zero, suc, Bool, true, List, Option, Some, None, refl, sym, ap, ◌∙◌}
-use Rattle.std.specs.Prelude.{slice_get, MatchOption}
-use Rattle.file_model.specs.declared.faults.FileFault.{FileFault}
+use Rattle.std.proofs.Common.{◌≡◌, ℕ, zero, suc, Bool, true, List, Option, Some, None, refl, ap, ◌∙◌}
+use Rattle.std.specs.Prelude.{slice_get}
 use Rattle.tier_model.specs.declared.turns.Turn.{Turn}
 use Rattle.tier_model.specs.declared.turns.Turn.TheVariants.{Reserve, Evict, Kept, Got, Lost, Fault, Changed, Commit, Idle}
-use Rattle.tier_model.specs.Tiers.{TierState, body_at, is_held}
+use Rattle.tier_model.specs.Tiers.{TierState, body_at}
 use Rattle.tier_model.specs.Choices.{Told}
 use Rattle.tier_model.specs.Answers.{IfGot, IfFault, IfChanged, IfEvict, IfKept}
-use Rattle.tier_model.specs.Turns.{Fetched, Came, Failed, Broken, Outcome, Board, paired, fetched_in, uses_in, outcome_in, leaving, begun, turn_of, IsTurn}
+use Rattle.tier_model.specs.Turns.{Came, Outcome, paired, fetched_in, outcome_in, leaving, begun, turn_of, IsTurn}
 use Rattle.tier_model.specs.Chains.{is_top, told_at}
 use Rattle.tier_model.specs.Follows.{Follows, Reserves, Gets, Loses, Fails, Breaks, Commits, Evicts, Keeps, Rests, followed-is}
 use Rattle.tier_model.specs.TurnLaws.{turn_follows}
 use Rattle.token_words.specs.Sessions.{session_count}
 use Rattle.run_model.specs.Worlds.{World}
 use Rattle.run_model.specs.States.{State, board_of, moved}
-use Rattle.run_model.specs.Turning.{GivesHeld, GivesStored, GivesBelow, IfFetched, uses_of, found_by, TurnsTo}
+use Rattle.run_model.specs.Turning.{GivesBelow, IfFetched, uses_of, found_by, TurnsTo}
 
 -- what the answer of a turn of tier k says of what lies outside the tier
 pub record IsAnswer (w : World) (a : State) (k : ℕ) (answer : Turn) (after : TierState) : Type 0 where

@@ -1,29 +1,28 @@
 -- What lines do doesn't depend on the bytes of bodies.
 use Rattle.std.proofs.Common.{◌≡◌, ℕ, zero, suc, Bool, true, false, cond, is_some, List, [], ◌∷◌, ◌++◌, length, map, Option, Some, None, refl, sym, ap, ap₂, subst, ◌∙◌}
 use Rattle.std.proofs.Math.Path.{fun_ext}
-use Rattle.std.specs.Prelude.{slice_get, slice_set, slice_index_or, MatchOption}
+use Rattle.std.specs.Prelude.{slice_get, slice_index_or, MatchOption}
 use Rattle.std.specs.List.{flat_map}
 use Rattle.std.specs.Option.{option_map, option_map_or, unwrap_or}
 use Rattle.std.proofs.lemmas.List.{map-set, length-replicate}
 use Rattle.std.proofs.lemmas.Option.{slice_get-map}
 use Rattle.grid_vertex.specs.declared.triangles.Triangle.{Triangle}
 use Rattle.file_model.specs.Lists.{SeenBody, no_body, triangles_of}
-use Rattle.round_model.specs.Refiners.{Refining, cut_of, cut_patches}
+use Rattle.round_model.specs.Refiners.{Refining, cut_patches}
 use Rattle.script_model.specs.declared.orders.Order.{Order}
 use Rattle.session_model.specs.Sessions.{SessionState}
 use Rattle.text_model.specs.FrameText.{Frame}
-use Rattle.tier_model.specs.declared.turns.Coming.{Coming}
 use Rattle.tier_model.specs.declared.turns.Turn.{Turn}
 use Rattle.tier_model.specs.declared.turns.Turn.TheVariants.{Reserve, Evict, Kept, Got, Lost, Fault, Changed, Commit, Idle}
 use Rattle.tier_model.specs.Tiers.{TierState, is_held}
 use Rattle.tier_model.specs.Choices.{Told}
-use Rattle.tier_model.specs.Turns.{Fetched, Came, Failed, Broken, Outcome, Board, paired, leaving, begun, turn_of}
+use Rattle.tier_model.specs.Turns.{Fetched, Came, Failed, Broken, Outcome, paired, leaving, begun, turn_of}
 use Rattle.tier_model.specs.Chains.{Chain, has_below, is_top, told_at, epochs_then}
 use Rattle.run_model.specs.Worlds.{World, IsFileBody}
 use Rattle.run_model.specs.States.{State, board_of, seated, posting, moved}
 use Rattle.run_model.specs.Turning.{GivesHeld, GivesStored, GivesBelow, IfFetched, uses_of, found_by, turn_at, TurnsTo}
-use Rattle.run_model.specs.Lines.{TierTold, tier_told, Did, DidFrame, DidTell, top_body, frame_of, IdlesTo, LastTurn, MoreTurns, SettlesTo, AllSettled, TierSettles, taken_off, Does, DoesOpen, DoesView, DoesStep, DoesFrame, DoesFree, DoesClose, DoesTurn, DoesSettle, DoesStatus}
-use Rattle.run_model.specs.BlankTiers.{blank_body, blank_bodies, blank, blank_fetched, blank_at, blank_held, blank_load, blank_count, blank_leaving, blank_begun, blank_turns, blank_tiers_twice}
+use Rattle.run_model.specs.Lines.{TierTold, tier_told, Did, DidFrame, DidTell, top_body, frame_of, IdlesTo, LastTurn, MoreTurns, SettlesTo, AllSettled, TierSettles, Does, DoesOpen, DoesView, DoesStep, DoesFrame, DoesFree, DoesClose, DoesTurn, DoesSettle, DoesStatus}
+use Rattle.run_model.specs.BlankTiers.{blank_body, blank, blank_fetched, blank_at, blank_held, blank_load, blank_count, blank_leaving, blank_begun, blank_turns, blank_tiers_twice}
 
 -- the state with bodies without their bytes
 unfoldable pub blank_state : State → State
@@ -143,7 +142,7 @@ blank_idles : (w : World) (k : ℕ) (a b : State) (log : List (ℕ × Turn)) →
 blank_idles w k a b _ (LastTurn turn) = LastTurn (blank_turns_to w k a b Idle turn)
 blank_idles w k a c _ (MoreTurns {b = b} {log = log} answer on turn rest) = MoreTurns answer on (blank_turns_to w k a b answer turn) (blank_idles w k b c log rest)
 
-blank_settles : (w : World) (n : ℕ) (a b : State) (log : List (ℕ × Turn)) → SettlesTo w n a log b → SettlesTo w n (blank_state a) log (blank_state b)
+pub blank_settles : (w : World) (n : ℕ) (a b : State) (log : List (ℕ × Turn)) → SettlesTo w n a log b → SettlesTo w n (blank_state a) log (blank_state b)
 blank_settles w zero a b _ AllSettled = AllSettled
 blank_settles w (suc n) a c _ (TierSettles {b = b} {log = log} {rest = rest} first later) = TierSettles (blank_idles w n a b log first) (blank_settles w n b c rest later)
 

@@ -13,10 +13,10 @@ use Rattle.tier_model.specs.declared.turns.Abort.TheVariants as reasons
 use Rattle.tier_model.specs.declared.turns.Turn.{Turn}
 use Rattle.tier_model.specs.declared.turns.Turn.TheVariants.{Reserve, Evict, Kept, Got, Lost, Fault, Changed, Commit, Idle}
 use Rattle.tier_model.specs.Places.{is_marked, is_coming, first_coming, first_bare, load_of}
-use Rattle.tier_model.specs.Tiers.{TierState, count, size, kept_wish, is_held, load, pinned_bytes}
+use Rattle.tier_model.specs.Tiers.{TierState, count, size, kept_wish, is_held, load}
 use Rattle.tier_model.specs.Changes.{reserved, arrived, aborted, committed, dropped, passed_over, calmed, renewed, ranked}
 use Rattle.tier_model.specs.Ranks.{outranks}
-use Rattle.tier_model.specs.Choices.{Told, topmost, is_missing, is_admissible, candidate, may_leave, victim}
+use Rattle.tier_model.specs.Choices.{Told, topmost, is_admissible, candidate, victim}
 use Rattle.tier_model.specs.Turns.{Fetched, Came, Failed, Broken, Outcome, Board, paired, fitting, entering, leaving, fetching, evicting, leave_or_idle, commit_or, fetch_or, reserve_or, ranked_turn_of, begun, turn_of}
 
 -- ---- bodies without their bytes

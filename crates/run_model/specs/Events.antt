@@ -1,5 +1,5 @@
 -- The events of a run.
-use Rattle.std.specs.Prelude.{◌≡◌, ℕ, Bool, false, Option, Some, None}
+use Rattle.std.specs.Prelude.{◌≡◌, ℕ, false, Some, None}
 use Rattle.round_model.specs.Views.{ViewSeen}
 use Rattle.session_model.specs.Sessions.{SessionState, uses, opened, with_view, printed_once}
 use Rattle.session_model.specs.Steps.{step_by, free_step}

@@ -26,9 +26,9 @@ use Rattle.run_model.specs.Safe.{IsSafe}
 use Rattle.run_model.specs.Sound.{IsSound, safe_sound}
 use Rattle.run_model.specs.SeatLaws.{each_put}
 use Rattle.run_model.specs.TurnLaws.{each_set_tier, is_turn}
-use Rattle.run_model.specs.SafeLaws.{event_keeps_safe, events_keep_safe}
+use Rattle.run_model.specs.SafeLaws.{event_keeps_safe}
 use Rattle.session_model.specs.Freeing.{FreesAll, NoUse, MoreUse}
-use Rattle.run_model.specs.Lines.{Did, IdlesTo, LastTurn, MoreTurns, SettlesTo, AllSettled, TierSettles, taken_off, Does, DoesOpen, DoesView, DoesStep, DoesFrame, DoesFree, DoesClose, DoesTurn, DoesSettle, DoesStatus}
+use Rattle.run_model.specs.Lines.{Did, IdlesTo, LastTurn, MoreTurns, SettlesTo, AllSettled, TierSettles, Does, DoesOpen, DoesView, DoesStep, DoesFrame, DoesFree, DoesClose, DoesTurn, DoesSettle, DoesStatus}
 use Rattle.run_model.specs.SessionReach.{step_view, finishes_view}
 use Rattle.run_model.specs.LineLaws.{does_reaches}
 use Rattle.run_model.specs.Kept.{TakeWishes, seat_view, ArePosted, IsKept}

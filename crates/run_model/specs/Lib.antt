@@ -1,4 +1,5 @@
 pub mod Worlds
+pub mod ToldWorlds
 pub mod States
 pub mod Turning
 pub mod Events

@@ -1,29 +1,27 @@
 -- A run of lines is one, and so is its text, where what the store gave is one.
-use Rattle.std.proofs.Common.{◌≡◌, ◌≢◌, ℕ, zero, suc, ◌+◌, Bool, true, false, cond, List, [], ◌∷◌, ◌++◌, length, map, Option, Some, None, is_some, refl, sym, ap, ap₂, subst, ◌∙◌, arith, append_assoc}
+use Rattle.std.proofs.Common.{◌≡◌, ℕ, suc, ◌+◌, Bool, true, false, cond, List, [], ◌∷◌, ◌++◌, length, map, Option, Some, None, refl, sym, ap, ap₂, subst, ◌∙◌, arith, append_assoc}
 use Rattle.std.specs.Option.{option_map}
 use Rattle.std.proofs.lemmas.Option.{same_Some}
-use Rattle.file_model.specs.Lists.{BodyLists, SeenBody, IndexLists}
+use Rattle.file_model.specs.Lists.{BodyLists, SeenBody}
 use Rattle.frame_laws.specs.OpenEdges.{open_is_one}
 use Rattle.round_model.specs.Refiners.{Refining}
 use Rattle.script_model.specs.declared.orders.Line.{Line}
 use Rattle.script_model.specs.declared.orders.Order.{Order}
 use Rattle.session_model.specs.Sessions.{SessionState, with_view, printed_once}
-use Rattle.session_model.specs.Steps.{SessionStep, step_by}
+use Rattle.session_model.specs.Steps.{step_by}
 use Rattle.session_model.specs.Finishes.{Finishes}
 use Rattle.text_model.specs.FrameText.{Frame, frame_text, IsFrameText}
 use Rattle.tier_model.specs.declared.turns.Turn.{Turn}
-use Rattle.tier_model.specs.declared.turns.Turn.TheVariants.{Idle}
 use Rattle.tier_model.specs.Places.{is_marked}
 use Rattle.tier_model.specs.Tiers.{TierState, base_marks}
 use Rattle.tier_model.specs.Changes.{fresh}
 use Rattle.tier_model.specs.Chains.{bodies_at, opened_top, opened_tiers, opened}
 use Rattle.run_model.specs.Worlds.{World, IsWorld, AreBaseBodies}
-use Rattle.run_model.specs.States.{State, posted_by, seated, posting, moved, opening}
-use Rattle.run_model.specs.Turning.{TurnsTo}
+use Rattle.run_model.specs.States.{State, posted_by, seated, posting, opening}
 use Rattle.run_model.specs.OpeningLaws.{base_is_marked, opened_count}
-use Rattle.run_model.specs.Lines.{Did, DidOpen, DidView, DidStep, DidFrame, DidFree, DidClose, DidTurns, DidTell, frame_of, IdlesTo, LastTurn, MoreTurns, SettlesTo, AllSettled, TierSettles, taken_off, Does, DoesOpen, DoesView, DoesStep, DoesFrame, DoesFree, DoesClose, DoesTurn, DoesSettle, DoesStatus, Runs, NoLine, OneLine}
+use Rattle.run_model.specs.Lines.{Did, DidOpen, DidView, DidStep, DidFrame, DidFree, DidClose, DidTurns, DidTell, frame_of, Does, DoesOpen, DoesView, DoesStep, DoesFrame, DoesFree, DoesClose, DoesTurn, DoesSettle, DoesStatus, Runs, NoLine, OneLine}
 use Rattle.run_model.specs.LineTexts.{IsTextOf, AreTextsOf, NoText, OneText}
-use Rattle.run_model.specs.RunTexts.{StoreOutcome, turn_outcome, turn_outcomes, outcomes_of, store_outcomes, IsOpening, orders_of, IsRunText}
+use Rattle.run_model.specs.RunTexts.{StoreOutcome, turn_outcomes, outcomes_of, store_outcomes, orders_of, IsRunText}
 use Rattle.run_model.specs.BlankTiers.{blank_body, blank_bodies, blank}
 use Rattle.session_model.specs.Freeing.{FreesAll}
 use Rattle.run_model.specs.BlankRuns.{blank_state, chain_with, blank_state_twice, blank_many, blank_does}

@@ -1,11 +1,11 @@
 -- What a session does until its round is done, or until it has no use, is one.
-use Rattle.std.proofs.Common.{◌≡◌, ℕ, ◌+◌, true, List, Some, None, refl, sym, ap, subst, ◌∙◌}
+use Rattle.std.proofs.Common.{◌≡◌, ℕ, ◌+◌, true, List, refl, sym, ap, subst, ◌∙◌}
 use Rattle.std.proofs.lemmas.Option.{same_Some}
 use Rattle.mesh_model.specs.Meshes.{MeshLists}
 use Rattle.session_model.specs.declared.steps.Stepped.{Stepped}
 use Rattle.session_model.specs.declared.steps.Stepped.TheVariants.{Done}
 use Rattle.session_model.specs.Sessions.{SessionState}
-use Rattle.session_model.specs.Steps.{SessionStep, stepped, step_by, free_step}
+use Rattle.session_model.specs.Steps.{SessionStep, step_by, free_step}
 use Rattle.session_model.specs.Finishes.{Steps, NoStep, OneMore, Finishes}
 use Rattle.session_model.specs.Freeing.{FreesAll, NoUse, MoreUse, unlocks_in}
 use Rattle.run_model.specs.SessionReach.{made_by}

@@ -1,19 +1,19 @@
 -- A turn is one, but for bytes of bodies, where what the store gave is one.
-use Rattle.std.proofs.Common.{◌≡◌, ℕ, zero, suc, ◌<◌, ◌≤◌, Bool, true, false, eqb, cond, List, [], ◌∷◌, ◌++◌, length, map, Option, Some, None, replicate, refl, sym, ap, ap₂, subst, ◌∙◌, arith, inl, inr}
+use Rattle.std.proofs.Common.{◌≡◌, ℕ, zero, suc, ◌<◌, ◌≤◌, Bool, true, false, cond, List, [], ◌∷◌, ◌++◌, length, Option, Some, None, replicate, refl, sym, ap, ap₂, subst, ◌∙◌, arith}
 use Rattle.std.specs.Prelude.{slice_get, MatchOption, IfSome}
 use Rattle.std.specs.Option.{option_map_or}
-use Rattle.std.proofs.lemmas.Bool.{eqb-true, eqb-false}
-use Rattle.std.proofs.lemmas.Option.{same_Some, slice_get_within, slice_get_past}
+use Rattle.std.proofs.lemmas.Bool.{eqb-false}
+use Rattle.std.proofs.lemmas.Option.{same_Some, slice_get_within}
 use Rattle.file_model.specs.declared.faults.FileFault.{FileFault}
 use Rattle.file_model.specs.Lists.{BodyLists, SeenBody}
 use Rattle.tier_model.specs.declared.turns.Abort.TheVariants as reasons
 use Rattle.tier_model.specs.declared.turns.Turn.{Turn}
-use Rattle.tier_model.specs.declared.turns.Turn.TheVariants.{Reserve, Evict, Kept, Got, Lost, Fault, Changed, Commit, Idle}
+use Rattle.tier_model.specs.declared.turns.Turn.TheVariants.{Changed}
 use Rattle.tier_model.specs.Places.{first_coming, first_bare}
-use Rattle.tier_model.specs.Tiers.{TierState, is_held, sizes_of}
+use Rattle.tier_model.specs.Tiers.{TierState, is_held}
 use Rattle.tier_model.specs.Changes.{arrived, aborted}
 use Rattle.tier_model.specs.Choices.{Told}
-use Rattle.tier_model.specs.Turns.{Fetched, Came, Failed, Broken, Outcome, Board, paired, entering, leaving, fetching, leave_or_idle, commit_or, fetch_or, reserve_or, ranked_turn_of, begun, turn_of}
+use Rattle.tier_model.specs.Turns.{Fetched, Came, Failed, Broken, Outcome, paired, entering, leaving, fetching, leave_or_idle, commit_or, fetch_or, reserve_or, ranked_turn_of, begun, turn_of}
 use Rattle.tier_model.specs.Chains.{has_below, told_at}
 use Rattle.run_model.specs.Worlds.{World, IsFileBody}
 use Rattle.run_model.specs.States.{State, board_of, moved}

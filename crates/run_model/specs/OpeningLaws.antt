@@ -1,5 +1,5 @@
 -- A run opens in a safe state.
-use Rattle.std.proofs.Common.{◌≡◌, ℕ, zero, suc, ◌<◌, ◌≤◌, Bool, true, false, not, eqb, List, [], ◌∷◌, length, map, Option, Some, None, is_some, refl, sym, ap, subst, ◌∙◌, arith, inl, inr}
+use Rattle.std.proofs.Common.{◌≡◌, ℕ, zero, suc, Bool, true, false, not, List, [], ◌∷◌, length, map, Option, Some, is_some, refl, sym, ap, subst, ◌∙◌, arith, inl, inr}
 use Rattle.std.specs.Prelude.{slice_get, if◌then◌else◌}
 use Rattle.std.specs.List.{AllByRecursion, list_any}
 use Rattle.std.proofs.lemmas.Bool.{cases_eq, eq-eqb, ne_eqb}
@@ -12,11 +12,11 @@ use Rattle.mesh_model.specs.Graph.{leads_to, leads_from, is_root, roots}
 use Rattle.mesh_model.specs.Meshes.{MeshLists, IsMesh}
 use Rattle.frame_laws.specs.Each.{each_then}
 use Rattle.frame_laws.specs.Ends.{HasEnds, each_has_ends}
-use Rattle.frame_laws.specs.Roots.{IsOnlyRoot, only_root_from_roots}
+use Rattle.frame_laws.specs.Roots.{only_root_from_roots}
 use Rattle.session_model.specs.Arcs.{passes_at, is_from}
 use Rattle.session_model.specs.StateLaws.{none_left_over}
 use Rattle.tier_model.specs.Places.{is_marked}
-use Rattle.tier_model.specs.Tiers.{TierState, IsTier, base_marks}
+use Rattle.tier_model.specs.Tiers.{TierState, base_marks}
 use Rattle.tier_model.specs.Changes.{fresh}
 use Rattle.tier_model.specs.Chains.{opened_top, opened_tiers, opened}
 use Rattle.tier_model.specs.Ties.{IsTied}

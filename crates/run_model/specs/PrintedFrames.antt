@@ -1,7 +1,7 @@
 -- Each frame that is printed shows a whole round of its session's view.
 use Rattle.std.proofs.Common.{◌≡◌, ℕ, suc, ◌+◌, Bool, true, false, ◌||◌, cond, List, [], ◌∷◌, ◌++◌, map, Option, Some, None, refl, sym, ap, subst, ◌∙◌, arith, inl, inr}
 use Rattle.std.specs.Prelude.{slice_get, slice_index_or, IfSome}
-use Rattle.std.specs.List.{AllByRecursion, flat_map}
+use Rattle.std.specs.List.{flat_map}
 use Rattle.std.specs.Option.{option_map_or, unwrap_or}
 use Rattle.std.proofs.lemmas.Bool.{cond_both, or_right}
 use Rattle.std.proofs.lemmas.Option.{same_Some}
@@ -39,10 +39,9 @@ use Rattle.run_model.specs.Worlds.{World, IsWorld}
 use Rattle.run_model.specs.States.{State}
 use Rattle.run_model.specs.Safe.{IsHeldAtTop, IsSafe}
 use Rattle.run_model.specs.SafeLaws.{events_keep_safe}
-use Rattle.run_model.specs.Events.{Reaches, Stays}
 use Rattle.run_model.specs.Lines.{Did, DidOpen, DidView, DidStep, DidFrame, DidFree, DidClose, DidTurns, DidTell, top_body, frame_of, Does, DoesOpen, DoesView, DoesStep, DoesFrame, DoesFree, DoesClose, DoesTurn, DoesSettle, DoesStatus, Runs, NoLine, OneLine}
-use Rattle.run_model.specs.LineLaws.{does_reaches}
-use Rattle.run_model.specs.SessionReach.{reaches_both, finishes_go, finishes_view}
+use Rattle.run_model.specs.RunLaws.{does_keeps_safe}
+use Rattle.run_model.specs.SessionReach.{finishes_go, finishes_view}
 
 -- ---- the file and its frames
 
@@ -175,12 +174,18 @@ module _ (w : World) (bodies : List BodyLists) (is_told : IsTold w bodies) where
       subst (λ (chain : Chain). ShowsRound (told_file w bodies) (view_rules view w.mesh) (frame_of chain.tiers i t done.round)) goes.1.chain
       (of_view goes.0 (events_keep_safe w a goes.0 world safe goes.1.reaches) i t view goes.1.at (finishes_view w.mesh a.chain.epochs s tries t finishes ∙ viewed) done)
 
--- the frame is of a session that has a view in this state, and shows a whole round of the view
+-- the frame is the next of a session that has a view in this state: the session's own tries, each answered by its patch's
+-- epoch in this state, end its round, and the frame is of that round, which is a whole one of the view
 pub record IsPrinted (w : World) (bodies : List BodyLists) (a : State) (frame : Frame) : Type 0 where
   pub s : SessionState
   pub at : a.sessions frame.session ≡ Some s
   pub view : ViewSeen
   pub viewed : s.view ≡ Some view
+  pub tries : List (ℕ × ℕ)
+  pub t : SessionState
+  pub finishes : Finishes w.mesh true a.chain.epochs s tries t
+  pub done : HasDone t
+  pub is : frame ≡ frame_of a.chain.tiers frame.session t done.round
   pub shows : ShowsRound (told_file w bodies) (view_rules view w.mesh) frame
 
 -- of the frame that a line printed
@@ -201,6 +206,11 @@ prints_frame w bodies a b order did is_told world safe (DoesFrame i s t view tri
   at = at;
   view = view;
   viewed = viewed;
+  tries = tries;
+  t = t;
+  finishes = finishes;
+  done = done;
+  is = refl;
   shows = frame_shows w bodies is_told a world safe i s t view tries at viewed finishes done;
 }
 prints_frame w bodies a b order did is_told world safe (DoesOpen i number closed) = tt
@@ -212,32 +222,12 @@ prints_frame w bodies a b order did is_told world safe (DoesTurn k answer turn) 
 prints_frame w bodies a b order did is_told world safe (DoesSettle settles) = tt
 prints_frame w bodies a b order did is_told world safe DoesStatus = tt
 
--- each frame of a run is printed so, in a state that the run reaches
-pub record IsPrintedFrom (w : World) (bodies : List BodyLists) (a : State) (frame : Frame) : Type 0 where
-  pub state : State
-  pub reached : Reaches w a state
-  pub printed : IsPrinted w bodies state frame
+-- each frame of a run is printed so in the state in which its line begins
+abbrev pub PrintsAlong : (w : World) (bodies : List BodyLists) (a b : State) (orders : List Order) (dids : List Did) → Runs w a orders dids b → Type 0
+PrintsAlong w bodies a b _ _ NoLine = Unit {0}
+PrintsAlong w bodies a c _ _ (OneLine {b = b} {orders = orders} {did = did} {dids = dids} does rest) = IfFrame did (IsPrinted w bodies a) × PrintsAlong w bodies b c orders dids rest
 
-abbrev pub AllPrinted : World → List BodyLists → State → List Did → Type 0
-AllPrinted w bodies a dids = AllByRecursion (λ did. IfFrame did (IsPrintedFrom w bodies a)) dids
-
-if_frame_then : (P Q : Frame → Type 0) (did : Did) → ((frame : Frame) → P frame → Q frame) → IfFrame did P → IfFrame did Q
-if_frame_then P Q (DidFrame frame) then is = then frame is
-if_frame_then P Q (DidOpen i) then is = tt
-if_frame_then P Q (DidView i) then is = tt
-if_frame_then P Q (DidStep i did) then is = tt
-if_frame_then P Q (DidFree i unlocks) then is = tt
-if_frame_then P Q (DidClose i unlocks) then is = tt
-if_frame_then P Q (DidTurns log) then is = tt
-if_frame_then P Q (DidTell tiers) then is = tt
-
-runs_print : (w : World) (bodies : List BodyLists) (a b c : State) (orders : List Order) (dids : List Did) → IsTold w bodies → IsWorld w → IsSafe w b → Reaches w a b → Runs w b orders dids c → AllPrinted w bodies a dids
-runs_print w bodies a b c _ _ is_told world safe reached NoLine = tt
-runs_print w bodies a b d _ _ is_told world safe reached (OneLine {b = c} {order = order} {orders = orders} {did = did} {dids = dids} does rest) =
-    let events = does_reaches w b c order did does in (
-      if_frame_then (IsPrinted w bodies b) (IsPrintedFrom w bodies a) did (λ frame printed. record { state = b; reached = reached; printed = printed }) (prints_frame w bodies b c order did is_told world safe does),
-      runs_print w bodies a c d orders dids is_told world (events_keep_safe w b c world safe events) (reaches_both w a b c reached events) rest,
-    )
-
-pub all_frames_are_printed : (w : World) (bodies : List BodyLists) (a b : State) (orders : List Order) (dids : List Did) → IsTold w bodies → IsWorld w → IsSafe w a → Runs w a orders dids b → AllPrinted w bodies a dids
-all_frames_are_printed w bodies a b orders dids is_told world safe runs = runs_print w bodies a a b orders dids is_told world safe Stays runs
+pub prints_along : (w : World) (bodies : List BodyLists) (a b : State) (orders : List Order) (dids : List Did) → IsTold w bodies → IsWorld w → IsSafe w a → (runs : Runs w a orders dids b) → PrintsAlong w bodies a b orders dids runs
+prints_along w bodies a b _ _ is_told world safe NoLine = tt
+prints_along w bodies a c _ _ is_told world safe (OneLine {b = b} {order = order} {orders = orders} {did = did} {dids = dids} does rest) =
+    (prints_frame w bodies a b order did is_told world safe does, prints_along w bodies b c orders dids is_told world (does_keeps_safe w a b order did world safe does) rest)

@@ -1,5 +1,5 @@
 -- Runs stay in safe states.
-use Rattle.std.proofs.Common.{◌≡◌, ℕ, List, sym, subst}
+use Rattle.std.proofs.Common.{List, sym, subst}
 use Rattle.script_model.specs.declared.orders.Order.{Order}
 use Rattle.run_model.specs.Worlds.{World, IsWorld, HoldsBase}
 use Rattle.run_model.specs.States.{State}

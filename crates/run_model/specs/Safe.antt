@@ -1,5 +1,5 @@
 -- Safe states.
-use Rattle.std.specs.Prelude.{◌≡◌, ℕ, suc, ◌<◌, ◌≤◌, Bool, true, false, List, length, Option, Some, None, slice_get}
+use Rattle.std.specs.Prelude.{◌≡◌, ℕ, suc, ◌<◌, ◌≤◌, true, false, length, Some, None, slice_get}
 use Rattle.file_model.specs.Lists.{SeenBody}
 use Rattle.file_model.specs.Tries.{is_odd}
 use Rattle.session_model.specs.Sessions.{SessionState, is_left_over, locks, uses}

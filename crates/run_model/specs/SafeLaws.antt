@@ -1,5 +1,5 @@
 -- Every event leads from a safe state to a safe state.
-use Rattle.std.proofs.Common.{◌≡◌, ℕ, Some, None, refl}
+use Rattle.std.proofs.Common.{Some, None}
 use Rattle.session_model.specs.Sessions.{with_view}
 use Rattle.run_model.specs.Worlds.{World, IsWorld}
 use Rattle.run_model.specs.States.{State, posted_by, seated}

@@ -1,9 +1,9 @@
 -- What sessions do, what is posted and what is taken off keep a state sound.
-use Rattle.std.proofs.Common.{◌≡◌, ◌≢◌, ℕ, Bool, true, false, eqb, cond, Option, Some, None, refl, sym, ap, subst, ◌∙◌, inl, inr}
+use Rattle.std.proofs.Common.{◌≡◌, ◌≢◌, ℕ, Bool, true, false, eqb, cond, Option, Some, None, refl, sym, subst, inl, inr}
 use Rattle.std.proofs.lemmas.Bool.{cases_eq, cond-true, cond-false, eq-eqb, ne_eqb, or_left}
 use Rattle.std.proofs.lemmas.Option.{same_Some}
 use Rattle.mesh_model.specs.Meshes.{MeshLists, IsMesh}
-use Rattle.session_model.specs.Sessions.{SessionState, locks, is_in_flight, uses, opened, with_view, printed_once}
+use Rattle.session_model.specs.Sessions.{SessionState, locks, is_in_flight, opened, with_view, printed_once}
 use Rattle.session_model.specs.Steps.{step, epoch_for, step_by, free_step}
 use Rattle.session_model.specs.SessionStates.{IsSessionState}
 use Rattle.session_model.specs.StateLaws.{opened_is, opened_uses}

@@ -8,14 +8,13 @@ use Rattle.file_model.specs.Lists.{SeenBody}
 use Rattle.file_model.specs.Tries.{is_odd}
 use Rattle.session_model.specs.Sessions.{SessionState, locks, is_in_flight, uses}
 use Rattle.tier_model.specs.declared.turns.Turn.{Turn}
-use Rattle.tier_model.specs.declared.turns.Turn.TheVariants.{Reserve, Evict, Kept, Got, Lost, Fault, Changed, Commit, Idle}
 use Rattle.tier_model.specs.Places.{is_marked}
-use Rattle.tier_model.specs.Tiers.{TierState, count, is_held, body_at, IsBodyFor, IsTier, sizes_of}
+use Rattle.tier_model.specs.Tiers.{TierState, count, is_held, body_at, IsBodyFor, IsTier}
 use Rattle.tier_model.specs.Choices.{Told}
 use Rattle.tier_model.specs.Answers.{IfGot}
 use Rattle.tier_model.specs.Turns.{Fetched, Came, Outcome, Board, paired, fetched_in, uses_in, outcome_in, leaving, begun, turn_of, IsTurn}
 use Rattle.tier_model.specs.Ties.{epochs_after, IsTied}
-use Rattle.tier_model.specs.Chains.{Chain, has_below, is_top, told_at, epochs_then}
+use Rattle.tier_model.specs.Chains.{has_below, is_top, told_at, epochs_then}
 use Rattle.tier_model.specs.Settling.{TurnsAt}
 use Rattle.tier_model.specs.Follows.{Leaves, Follows, Reserves, Gets, Loses, Fails, Breaks, Commits, Evicts, Keeps, Rests, follows, followed-is}
 use Rattle.tier_model.specs.ComingLaws.{bare_comes, first_comes}
@@ -23,13 +22,12 @@ use Rattle.tier_model.specs.BodyLaws.{get-set_same, get-set_other, away_not_ther
 use Rattle.tier_model.specs.TierLaws.{IsTier-begun}
 use Rattle.tier_model.specs.TurnLaws.{body_arrived, begun_places, turn-from_ranked, IsTier-turned, setup-turned}
 use Rattle.tier_model.specs.TieLaws.{risen_other, tied-begun}
-use Rattle.tier_model.specs.ChainLaws.{AreTiers, IsTopTied, tied_turned}
+use Rattle.tier_model.specs.ChainLaws.{tied_turned}
 use Rattle.token_words.specs.Sessions.{IsSession, session_count, none-session_count}
 use Rattle.run_model.specs.Worlds.{World, is_base, IsFileBody}
 use Rattle.run_model.specs.States.{State, board_of, seat_uses, moved}
 use Rattle.run_model.specs.Turning.{GivesHeld, GivesStored, GivesBelow, IfFetched, uses_of, found_by, TurnsTo}
-use Rattle.run_model.specs.Safe.{IsSetUp}
-use Rattle.run_model.specs.Sound.{IsTierOf, IsSeated, IsSound, many_patches, base_within, locked_within}
+use Rattle.run_model.specs.Sound.{IsTierOf, IsSound, many_patches, base_within, locked_within}
 use Rattle.run_model.specs.BodyLaws.{bodies-turned}
 
 -- ---- what a turn found is read off its answer and the tier behind it

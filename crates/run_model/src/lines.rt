@@ -16,7 +16,7 @@ ghost use Rattle.run_model.specs.Safe.{IsSafe};
 ghost use Rattle.run_model.specs.Lines.{Did, Does, Runs};
 ghost use Rattle.run_model.specs.AnswerLaws.{IsAnswer};
 ghost use Rattle.run_model.specs.RunTexts.{StoreOutcome, IsOpening, IsRunText};
-ghost use Rattle.run_model.specs.PrintedFrames.{IsTold, IfFrame, IsPrinted, AllPrinted};
+ghost use Rattle.run_model.specs.PrintedFrames.{IsTold, IfFrame, IsPrinted, PrintsAlong};
 ghost use Rattle.run_model.specs.Kept.{TakeWishes, IsKept};
 
 /// What a line does is a list of events, and so is what lines do one after another.
@@ -35,15 +35,16 @@ pub fn runs_stay_safe()
         → HoldsBase w → IsOpening w a → Runs w a orders dids b → IsSafe w b }
 {}
 
-/// Each frame that is printed is the greedy refinement over the answers of its own steps: it is that of a whole
-/// round of its session's view. Its cut has each node's parents, and its triangles the base's boundary.
+/// Each frame that is printed is the greedy refinement over the answers of its session's own tries: in the state in
+/// which its line begins, the session's steps end a whole round of its view, and the frame is of that round. Its cut
+/// has each node's parents, and its triangles the base's boundary.
 pub fn each_frame_shows_a_whole_round()
     ensures line { (w : World) (bodies : List BodyLists) (a b : State) (order : Order) (did : Did)
         → IsTold w bodies → IsWorld w → IsSafe w a → Does w a order did b
         → IfFrame did (IsPrinted w bodies a) }
     ensures run { (w : World) (bodies : List BodyLists) (a b : State) (orders : List Order)
-        (dids : List Did) → IsTold w bodies → IsWorld w → IsSafe w a → Runs w a orders dids b
-        → AllPrinted w bodies a dids }
+        (dids : List Did) → IsTold w bodies → IsWorld w → IsSafe w a
+        → (runs : Runs w a orders dids b) → PrintsAlong w bodies a b orders dids runs }
 {}
 
 /// A turn of a tier whose answer says what lies outside the tier is a turn in the state.

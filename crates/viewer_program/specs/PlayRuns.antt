@@ -1,10 +1,6 @@
 -- What `play` and `playw` run: the world of their file and words, the script's lines, and what is counted of a run.
 use Rattle.std.specs.Prelude.{◌≡◌, ℕ, ◌+◌, ◌≤◌, List, length, sum_by, slice_index, Option, Some, None, Ok, IfSome}
 use Rattle.std.specs.List.{AllByRecursion}
-use Rattle.file_model.specs.Lists.{FileLists}
-use Rattle.file_model.specs.Reading.{file_in}
-use Rattle.file_model.specs.Rules.{IsPatchFile}
-use Rattle.mesh_model.specs.Accepted.{IsAccepted}
 use Rattle.mesh_model.specs.Meshes.{MeshLists}
 use Rattle.cache_chain.specs.Refusals.{base_size}
 use Rattle.script_model.specs.declared.modes.Mode.TheVariants.{Play}
@@ -13,6 +9,7 @@ use Rattle.script_model.specs.Scripts.{script_in, AreLines}
 use Rattle.view_outside.specs.Faults.{Rose, RoseBy}
 use Rattle.view_outside.specs.Taken.{taken_after}
 use Rattle.run_model.specs.Worlds.{World, IsWorld}
+pub use Rattle.run_model.specs.ToldWorlds.{IsWorldOver}
 use Rattle.run_model.specs.Lines.{Did}
 use Rattle.run_model.specs.RunTexts.{StoreOutcome, IsRunText, turns_in, faults_of, bytes_from_store}
 use Rattle.view_machine.specs.RunEnds.{HaveNoChange}
@@ -21,15 +18,6 @@ use Rattle.viewer_program.specs.Playing.{PlaySeen}
 use Rattle.viewer_program.specs.Promises.{KeepsPromises}
 
 -- ---- the world
-
--- the world has the mesh and the bodies of the file of these bytes, which are an accepted file
-pub record IsWorldOver (bytes : List ℕ) (w : World) : Type 0 where
-  pub file : FileLists
-  pub read : file_in bytes ≡ Ok file
-  pub spelling : IsPatchFile file bytes
-  pub accepted : IsAccepted file w.mesh.root
-  pub index : file.index ≡ w.mesh.index
-  pub bodies : w.bodies ≡ Some file.bodies
 
 -- it is the world that the words ask for, over the file that is named, where its bytes are told
 pub record IsWorldOf (play : PlaySeen) (told : Option (List ℕ)) (w : World) : Type 0 where
@@ -77,7 +65,7 @@ pub record PrintsRun (w : World) (lines : List Line) (text : List ℕ) (faults f
   pub is : IsRunText w lines outcomes text
   pub told_faults : RoseBy (run_faults w is.dids) faults faults_now
   pub unchanged : (w.bodies ≡ None → ⊥) → HaveNoChange is.dids
-  pub promises : KeepsPromises w is.first is.dids
+  pub promises : KeepsPromises w is.runs
 
 -- where the store didn't fail, it gave these first bytes and those of the patches that came from it in the run, and no
 -- other; where it tells nothing, this has the premise that no line tells of bytes that break the rule of bodies
