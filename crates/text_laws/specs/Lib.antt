@@ -3,3 +3,4 @@ pub mod Meshes
 pub mod Rounds
 pub mod Texts
 pub mod Picks
+pub mod Plays

@@ -18,6 +18,10 @@ ghost use Rattle.view_planes.specs.Planes.{PlanesSeen};
 ghost use Rattle.still_texts.specs.Full.{IsGranted, IsFullText, IsCullText};
 ghost use Rattle.still_texts.specs.Sides.{IsSidesText};
 ghost use Rattle.ray_pick.specs.Rays.{RaySeen};
+ghost use Rattle.script_model.specs.declared.orders.Line.{Line};
+ghost use Rattle.run_model.specs.Worlds.{World};
+ghost use Rattle.run_model.specs.RunTexts.{StoreOutcome, IsRunText};
+ghost use Rattle.text_laws.specs.Plays.{IsOver};
 ghost use Rattle.still_texts.specs.Picks.{IsPickText};
 
 /// The line of an accepted file is one.
@@ -66,4 +70,16 @@ pub fn a_pick_has_one_text()
     ensures { (view : ViewSeen) (ray : RaySeen) (file : FileLists) (root : ℕ) (text other : List ℕ)
         → IsPickText view ray file root text → IsPickText view ray file root other
         → text ≡ other }
+{}
+
+/// A play has one text for each list of what came of the store's fetches: the file's bytes, the budgets and the
+/// width have one world, and the lines and the outcomes have one text in it. Several reads of the store make one
+/// fetch, so that which reads failed says more than the outcomes do.
+pub fn a_play_has_one_text()
+    ensures worlds { (bytes budgets : List ℕ) (width : ℕ) (world other : World)
+        → IsOver bytes budgets width world → IsOver bytes budgets width other → world ≡ other }
+    ensures texts { (bytes budgets : List ℕ) (width : ℕ) (world other : World) (lines : List Line)
+        (outcomes : List StoreOutcome) (first second : List ℕ) → IsOver bytes budgets width world
+        → IsOver bytes budgets width other → IsRunText world lines outcomes first
+        → IsRunText other lines outcomes second → first ≡ second }
 {}
