@@ -1,7 +1,7 @@
 //! The commands over objects in memory.
 
 use crate::run::run_still;
-use crate::statuses::{status_code, status_text};
+use crate::telling::tell;
 use file_model::FileFault;
 use grid_vertex::Point;
 use mesh_model::{DagFault, Refusal};

@@ -4,12 +4,10 @@ use super::*;
 
 // How the status is told: its line and its code.
 fn told(alloc: Global, status: &Status) -> Result<(String, u8), Fail> {
-    let mut line = Vec::new(alloc);
-    if status_text(alloc, status, &mut line).is_err() {
-        return Err(Fail::from("there is no memory"));
-    }
-    match String::from_utf8(line) {
-        Ok(line) => Ok((line, status_code(status))),
+    let mut sink = MemorySink::with_room(alloc, 100, 7, Vec::new(alloc))?;
+    let code = tell(alloc, status, &mut sink);
+    match String::from_utf8(sink.into_bytes()) {
+        Ok(line) => Ok((line, code)),
         Err(_) => Err(Fail::from("a status is no text")),
     }
 }
