@@ -13,13 +13,13 @@ use Rattle.run_model.specs.States.{State, board_of, seated, posting, moved, open
 use Rattle.run_model.specs.Turning.{TurnsTo}
 use Rattle.run_model.specs.Events.{Happens, Steps, Turns, Frees, Opens, Views, TakesOff, Prints, Ends, Reaches, Stays, Then}
 use Rattle.run_model.specs.Safe.{IsSafe}
-use Rattle.run_model.specs.Sound.{IsSound, safe_sound}
-use Rattle.run_model.specs.TurnLaws.{each_set_tier, is_turn}
-use Rattle.run_model.specs.SafeLaws.{event_keeps_safe}
-use Rattle.run_model.specs.LineLaws.{runs_reach}
-use Rattle.run_model.specs.RunLaws.{does_keeps_safe, opened_is_safe}
+use Rattle.run_laws.specs.Sound.{IsSound, safe_sound}
+use Rattle.run_laws.specs.TurnLaws.{each_set_tier, is_turn}
+use Rattle.run_laws.specs.SafeLaws.{event_keeps_safe}
+use Rattle.run_laws.specs.LineLaws.{runs_reach}
+use Rattle.run_laws.specs.RunLaws.{does_keeps_safe, opened_is_safe}
 use Rattle.run_model.specs.Kept.{IsKept}
-use Rattle.run_model.specs.KeptLaws.{opening_kept, does_kept}
+use Rattle.run_laws.specs.KeptLaws.{opening_kept, does_kept}
 use Rattle.run_model.specs.Lines.{Did, Runs, NoLine, OneLine}
 use Rattle.run_model.specs.RunTexts.{IsOpening}
 use Rattle.bench_laws.specs.Settlings.{KeepsBases}

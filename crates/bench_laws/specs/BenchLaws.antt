@@ -11,7 +11,7 @@ use Rattle.mesh_model.specs.Graph.{numbers_from, nodes_where, roots}
 use Rattle.mesh_model.specs.Meshes.{MeshLists, IsMesh}
 use Rattle.mesh_model.specs.Nets.{HasOpenPairs}
 use Rattle.mesh_model.specs.Frames.{frame_patches, frame_triangles}
-use Rattle.frame_laws.specs.Frames.{frame_of_set}
+use Rattle.mesh_laws.specs.Frames.{frame_of_set}
 use Rattle.round_laws.specs.Ascending.{first_is}
 use Rattle.round_model.specs.Rounds.{has, round_of}
 use Rattle.round_model.specs.Views.{rules_of}

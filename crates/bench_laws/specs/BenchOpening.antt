@@ -22,13 +22,13 @@ use Rattle.detail_laws.specs.BaseLaws.{base-opened}
 use Rattle.run_model.specs.Worlds.{World, patch_count, IsWorld, HoldsBase}
 use Rattle.run_model.specs.States.{State, board_of, posted_by, seated, posting, opening}
 use Rattle.run_model.specs.Safe.{IsSafe}
-use Rattle.run_model.specs.SessionReach.{seat_at}
-use Rattle.run_model.specs.RunLaws.{does_keeps_safe, opened_is_safe}
+use Rattle.run_laws.specs.SessionReach.{seat_at}
+use Rattle.run_laws.specs.RunLaws.{does_keeps_safe, opened_is_safe}
 use Rattle.run_model.specs.Kept.{IsKept}
-use Rattle.run_model.specs.KeptLaws.{opening_kept, does_kept}
+use Rattle.run_laws.specs.KeptLaws.{opening_kept, does_kept}
 use Rattle.run_model.specs.Lines.{Did, DidOpen, DidView, Does, DoesOpen, DoesView}
 use Rattle.run_model.specs.RunTexts.{IsOpening}
-use Rattle.run_model.specs.PrintedFrames.{IsTold}
+use Rattle.run_laws.specs.PrintedFrames.{IsTold}
 use Rattle.bench_laws.specs.Settlings.{passed_or_used, KeepsBases, IsReadyToSettle, IsReadyToShow}
 use Rattle.bench_laws.specs.BenchRuns.{bench_file, bench_budget, bench_view}
 use Rattle.bench_laws.specs.StripViews.{strip_mesh, fits_all}

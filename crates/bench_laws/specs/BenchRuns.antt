@@ -6,7 +6,7 @@ use Rattle.file_model.specs.Spelling.{file_text}
 use Rattle.mesh_model.specs.Frames.{frame_patches, root_alone}
 use Rattle.mesh_model.specs.Meshes.{IsMesh}
 use Rattle.mesh_model.specs.Nets.{HasOpenPairs}
-use Rattle.frame_laws.specs.Frames.{frame_of_set}
+use Rattle.mesh_laws.specs.Frames.{frame_of_set}
 use Rattle.round_model.specs.Views.{ViewSeen}
 use Rattle.script_model.specs.declared.orders.Order.{Order}
 use Rattle.script_model.specs.declared.orders.Order.TheVariants as orders

@@ -3,9 +3,9 @@ use Rattle.std.proofs.Common.{◌≡◌, ℕ, ◌+◌, ◌-◌, ◌*◌, ◌≤�
 use Rattle.grid_vertex.specs.declared.triangles.Triangle.{Triangle}
 use Rattle.mesh_model.specs.Frames.{root_alone}
 use Rattle.mesh_model.specs.Nets.{Pair, HasOpenPairs}
-use Rattle.frame_laws.specs.Frames.{frame_of_set}
-use Rattle.frame_laws.specs.Bases.{base_is_cut}
-use Rattle.frame_laws.specs.OpenEdges.{open_is_one}
+use Rattle.mesh_laws.specs.Frames.{frame_of_set}
+use Rattle.mesh_laws.specs.Bases.{base_is_cut}
+use Rattle.mesh_laws.specs.OpenEdges.{open_is_one}
 use Rattle.strip_laws.specs.StripBorder.{frame_has_open}
 use Rattle.strip_laws.specs.StripCounts.{patch_count, field_count}
 use Rattle.strip_laws.specs.StripFrames.{base_patch_count, base_triangle_count}

@@ -9,9 +9,9 @@ use Rattle.file_model.specs.Lists.{SeenBody, body_size}
 use Rattle.file_model.specs.Tries.{is_odd}
 use Rattle.mesh_model.specs.Graph.{leads_from, patches_from}
 use Rattle.mesh_model.specs.Meshes.{IsMesh}
-use Rattle.frame_laws.specs.Bases.{base_patches}
+use Rattle.mesh_laws.specs.Bases.{base_patches}
 use Rattle.script_model.specs.declared.orders.Order.TheVariants as orders
-use Rattle.session_model.specs.Arcs.{passes_at, is_from}
+use Rattle.round_laws.specs.Arcs.{passes_at, is_from}
 use Rattle.strip_laws.specs.Strip.{strip_nodes, strip_patches, fields_of}
 use Rattle.strip_laws.specs.StripCounts.{patch_count, field_count}
 use Rattle.strip_laws.specs.StripFrames.{base_patch_count}
@@ -21,9 +21,9 @@ use Rattle.tier_model.specs.Places.{is_marked, is_coming}
 use Rattle.tier_model.specs.Tiers.{TierState, count, kept_wish, is_held, base_marks}
 use Rattle.tier_model.specs.Changes.{fresh}
 use Rattle.tier_model.specs.Turns.{Board, begun}
-use Rattle.tier_model.specs.TurnLaws.{begun_places, begun_wishes}
+use Rattle.tier_laws.specs.TurnLaws.{begun_places, begun_wishes}
 use Rattle.tier_model.specs.Chains.{Chain, told_at, opened_top, opened_tiers, opened}
-use Rattle.tier_model.specs.OpeningLaws.{tied-opened}
+use Rattle.tier_laws.specs.OpeningLaws.{tied-opened}
 use Rattle.tier_model.specs.Settling.{Settles, Settled, Tier}
 use Rattle.settling_laws.specs.Stages.{sum_below}
 use Rattle.detail_laws.specs.Needs.{GoWell}
@@ -33,7 +33,7 @@ use Rattle.detail_laws.specs.ExactTurns.{IsStraight, straight-begins, exact_turn
 use Rattle.detail_laws.specs.Reached.{wanted_is_wished, store_has}
 use Rattle.run_model.specs.Worlds.{World}
 use Rattle.run_model.specs.States.{State, board_of}
-use Rattle.run_model.specs.OpeningLaws.{base_is_marked}
+use Rattle.run_laws.specs.OpeningLaws.{base_is_marked}
 use Rattle.run_model.specs.Lines.{DidOpen, DidView, SettlesTo, Does}
 use Rattle.run_model.specs.RunTexts.{IsOpening, turn_outcomes}
 use Rattle.bench_laws.specs.Settlings.{NeverFails, passed_or_used}

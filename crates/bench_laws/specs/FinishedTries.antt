@@ -14,7 +14,7 @@ use Rattle.session_model.specs.Steps.{try_pairs, IsOfEpochs}
 use Rattle.session_model.specs.SessionStates.{IsSessionState, unprinted_round}
 use Rattle.session_model.specs.DoneRounds.{HasDone}
 use Rattle.session_model.specs.Finishes.{Steps, NoStep, OneMore, Finishes, pairs_of}
-use Rattle.session_model.specs.FinishLaws.{finished_tries}
+use Rattle.session_laws.specs.FinishLaws.{finished_tries}
 use Rattle.detail_laws.specs.Wanted.{AreAnsweredBy}
 
 -- each patch with its epoch

@@ -36,12 +36,12 @@ use Rattle.detail_laws.specs.Reached.{reached_detail}
 use Rattle.run_model.specs.Worlds.{World, is_base, IsWorld, HoldsBase}
 use Rattle.run_model.specs.States.{State, board_of, posted_views, posted_by}
 use Rattle.run_model.specs.Safe.{IsSafe}
-use Rattle.run_model.specs.Sound.{sound_safe, safe_sound}
-use Rattle.run_model.specs.RunLaws.{runs_are_safe}
+use Rattle.run_laws.specs.Sound.{sound_safe, safe_sound}
+use Rattle.run_laws.specs.RunLaws.{runs_are_safe}
 use Rattle.run_model.specs.Kept.{seat_view, IsKept}
 use Rattle.run_model.specs.Lines.{Did, DidFrame, DidTurns, frame_of, SettlesTo, Does, DoesFrame, DoesSettle, Runs}
 use Rattle.run_model.specs.RunTexts.{turn_outcomes, IsOpening}
-use Rattle.run_model.specs.PrintedFrames.{IsTold, frame_shows}
+use Rattle.run_laws.specs.PrintedFrames.{IsTold, frame_shows}
 use Rattle.bench_laws.specs.Settlings.{SettlesBy, PrintsBy, NeverFails, in_use, was_passed, passed_or_used, KeepsBases, IsReadyToSettle, IsReadyToShow, ShowsWanted}
 use Rattle.bench_laws.specs.BaseKept.{runs_keep_base, runs_keep_kept}
 use Rattle.bench_laws.specs.SettlingRuns.{HasSettled, has_settled}

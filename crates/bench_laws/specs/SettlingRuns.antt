@@ -12,14 +12,14 @@ use Rattle.tier_model.specs.declared.turns.Turn.TheVariants.{Fault, Changed, Idl
 use Rattle.tier_model.specs.Tiers.{TierState, is_held}
 use Rattle.tier_model.specs.Turns.{Fetched, Outcome, Board, paired, leaving, begun, turn_of}
 use Rattle.tier_model.specs.Chains.{has_below, is_top, told_at}
-use Rattle.tier_model.specs.Follows.{Follows, Reserves, Gets, Loses, Fails, Breaks, Commits, Evicts, Keeps, Rests, follows}
+use Rattle.tier_laws.specs.Follows.{Follows, Reserves, Gets, Loses, Fails, Breaks, Commits, Evicts, Keeps, Rests, follows}
 use Rattle.tier_model.specs.Settling.{TurnsAt, TurnsToIdle, Last, More, Settles, Settled, Tier}
 use Rattle.detail_laws.specs.Needs.{GoesWell, GoWell}
 use Rattle.run_model.specs.Worlds.{World}
 use Rattle.run_model.specs.States.{State, board_of, moved}
 use Rattle.run_model.specs.Turning.{GivesHeld, GivesStored, GivesBelow, IfFetched, uses_of, found_by, TurnsTo}
-use Rattle.run_model.specs.Sound.{IsSound}
-use Rattle.run_model.specs.TurnLaws.{moved_chain, turned_sound}
+use Rattle.run_laws.specs.Sound.{IsSound}
+use Rattle.run_laws.specs.TurnLaws.{moved_chain, turned_sound}
 use Rattle.run_model.specs.Lines.{IdlesTo, LastTurn, MoreTurns, SettlesTo, AllSettled, TierSettles}
 use Rattle.run_model.specs.RunTexts.{StoreOutcome, GaveBody, HadFault, FoundChange, fetch_outcome, is_lowest, turn_outcome, turn_outcomes}
 use Rattle.bench_laws.specs.Settlings.{NeverFails}

@@ -18,12 +18,12 @@ use Rattle.tier_model.specs.Places.{is_marked}
 use Rattle.tier_model.specs.Tiers.{TierState}
 use Rattle.tier_model.specs.Chains.{is_top}
 use Rattle.detail_laws.specs.Needs.{KeepsBase, needed_bytes}
-use Rattle.detail_laws.specs.Wanted.{FitsWanted}
+use Rattle.round_laws.specs.Wanted.{FitsWanted}
 use Rattle.run_model.specs.Worlds.{World, patch_count}
 use Rattle.run_model.specs.States.{State, board_of}
 use Rattle.run_model.specs.Lines.{DidTurns, DidFrame, Does}
 use Rattle.run_model.specs.RunTexts.{StoreOutcome, GaveBody}
-use Rattle.run_model.specs.PrintedFrames.{told_file, ShowsRound}
+use Rattle.run_laws.specs.PrintedFrames.{told_file, ShowsRound}
 
 -- all tiers settle, in these turns
 abbrev pub SettlesBy : World → State → List (ℕ × Turn) → State → Type 0

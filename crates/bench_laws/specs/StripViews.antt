@@ -13,7 +13,7 @@ use Rattle.file_model.specs.declared.fields.PatchField.{PatchField}
 use Rattle.mesh_model.specs.Graph.{is_root, is_sink}
 use Rattle.mesh_model.specs.Frames.{triangles_in_all, leads_out}
 use Rattle.mesh_model.specs.Meshes.{MeshLists}
-use Rattle.frame_laws.specs.Each.{each_at}
+use Rattle.mesh_laws.specs.Each.{each_at}
 use Rattle.round_model.specs.Scores.{distance_of, score_of}
 use Rattle.round_model.specs.Order.{Rules}
 use Rattle.round_model.specs.Rounds.{has, frame_size, is_wanted, root_set}
@@ -29,7 +29,7 @@ use Rattle.strip_laws.specs.StripGraph.{first_is_root, last_is_sink, others_no_r
 use Rattle.strip_laws.specs.StripNodes.{node_count, node_of_square, node_of_edge, square_error, gap_within}
 use Rattle.tier_model.specs.Places.{is_marked}
 use Rattle.tier_model.specs.Tiers.{base_marks}
-use Rattle.detail_laws.specs.Wanted.{with_members, FitsWanted, IsOfWanted}
+use Rattle.round_laws.specs.Wanted.{with_members, FitsWanted, IsOfWanted}
 use Rattle.detail_laws.specs.Reached.{mark_at}
 use Rattle.bench_laws.specs.BenchRuns.{bench_file, bench_view}
 

@@ -10,14 +10,14 @@ use Rattle.mesh_model.specs.Graph.{outgoing}
 use Rattle.mesh_model.specs.Nets.{HasOpenPairs}
 use Rattle.grid_vertex.specs.declared.triangles.Triangle.{Triangle}
 use Rattle.mesh_model.specs.Frames.{root_alone}
-use Rattle.frame_laws.specs.Frames.{frame_of_set}
-use Rattle.frame_laws.specs.Bases.{base_patches, base_triangles}
+use Rattle.mesh_laws.specs.Frames.{frame_of_set}
+use Rattle.mesh_laws.specs.Bases.{base_patches, base_triangles}
 use Rattle.strip_laws.specs.Strip.{strip_nodes}
 use Rattle.strip_laws.specs.StripGraph.{one_root as strip_root}
 use Rattle.strip_laws.specs.StripNodes.{node_count}
 use Rattle.strip_laws.specs.StripRules.{strip_is_file, strip_is_accepted}
 use Rattle.text_model.specs.BenchText.{BenchCounts, FrameCounts}
-use Rattle.verdict_laws.specs.Verdicts.{one_root}
+use Rattle.mesh_laws.specs.Verdicts.{one_root}
 use Rattle.view_machine.specs.declared.sizes.FrameSize.{FrameSize}
 use Rattle.view_machine.specs.FrameSizes.{HasSize}
 use Rattle.bench_laws.specs.BenchRuns.{bench_file, IsFrameCounted, AreBenchCounts}

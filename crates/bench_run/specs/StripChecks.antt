@@ -18,7 +18,7 @@ use Rattle.dag_check.specs.Checks.{Checks}
 use Rattle.dag_check.specs.declared.refusals.CheckRefusal.{CheckRefusal}
 use Rattle.dag_check.specs.declared.refusals.CheckRefusal.TheVariants as checks
 use Rattle.strip_laws.specs.StripRules.{strip_index, strip_is_file, strip_is_accepted}
-use Rattle.verdict_laws.specs.Verdicts.{not_both}
+use Rattle.mesh_laws.specs.Verdicts.{not_both}
 use Rattle.view_outside.specs.Faults.{Rose}
 use Rattle.view_outside.specs.Files.{Named, file_bytes}
 use Rattle.view_outside.specs.OnlyRead.{OnlyIf}

@@ -16,8 +16,8 @@ use crate::summaries::{RunCounts, summary_text};
 use crate::sure::SureStore;
 use accepted_mesh::Mesh;
 use cache_chain::open_tiers;
-use error_metric::View;
 use grid_vertex::{NoMemory, Point};
+use round_model::View;
 use std::alloc::Global;
 use view_machine::{Beginning, FrameSize, Machine, StartRefusal};
 

@@ -6,8 +6,8 @@ use Rattle.tier_model.specs.Tiers.{TierState}
 use Rattle.tier_model.specs.Answers.{IfFault, IfChanged, IfKept}
 use Rattle.tier_model.specs.Choices.{Told}
 use Rattle.tier_model.specs.Turns.{Outcome, Board, begun, paired, outcome_in, IsTurn}
-use Rattle.tier_model.specs.Follows.{Follows, Reserves, Gets, Loses, Fails, Breaks, Commits, Evicts, Keeps, Rests}
-use Rattle.tier_model.specs.TurnLaws.{turn_follows}
+use Rattle.tier_laws.specs.Follows.{Follows, Reserves, Gets, Loses, Fails, Breaks, Commits, Evicts, Keeps, Rests}
+use Rattle.tier_laws.specs.TurnLaws.{turn_follows}
 use Rattle.transfer_step.specs.TurnWords.{misses_in}
 use Rattle.cache_chain.specs.AnswerMaps.{result_fault_more, result_changed_more}
 use Rattle.cache_chain.specs.WordTurns.{NeverFails}

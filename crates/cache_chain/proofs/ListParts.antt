@@ -3,7 +3,7 @@ use Rattle.std.proofs.Common.{◌≡◌, ℕ, zero, suc, ◌+◌, ◌<◌, ◌�
 use Rattle.std.specs.Prelude.{slice_get, slice_set, slice_index_or}
 use Rattle.std.proofs.lemmas.List.{length-set, length-map, map-set}
 use Rattle.tier_model.specs.Tiers.{TierState}
-use Rattle.tier_model.specs.BodyLaws.{get-set_same}
+use Rattle.tier_laws.specs.BodyLaws.{get-set_same}
 use Rattle.tier_budget.specs.TierView.{TierSeen}
 use Rattle.cache_chain.specs.ChainStates.{states_of}
 

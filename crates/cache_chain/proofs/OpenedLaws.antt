@@ -21,8 +21,8 @@ use Rattle.tier_model.specs.Places.{is_marked}
 use Rattle.tier_model.specs.Tiers.{TierState, IsWidth, IsBodyFor, sizes_of, base_marks}
 use Rattle.tier_model.specs.Changes.{fresh}
 use Rattle.tier_model.specs.Chains.{opened_top, opened_tiers}
-use Rattle.tier_model.specs.BodyLaws.{none_there}
-use Rattle.tier_model.specs.OpeningLaws.{IsTier-fresh, made-fresh, IsTier-opened_top, made-opened_top, each-opened}
+use Rattle.tier_laws.specs.BodyLaws.{none_there}
+use Rattle.tier_laws.specs.OpeningLaws.{IsTier-fresh, made-fresh, IsTier-opened_top, made-opened_top, each-opened}
 use Rattle.body_loads.specs.Loads.{AreBodiesAt, sizes_sum, patches_of}
 use Rattle.body_loads.specs.PatchLists.{chosen_below}
 use Rattle.cache_chain.specs.ChainStates.{states_of, IsFileBody, IsTierOf, AreTiersOf}

@@ -14,9 +14,9 @@ use Rattle.tier_model.specs.Places.{is_marked, marked_bytes}
 use Rattle.tier_model.specs.Tiers.{TierState, load, IsBodyFor, sizes_of, base_marks}
 use Rattle.tier_model.specs.Changes.{fresh, with_pin}
 use Rattle.tier_model.specs.Chains.{bodies_at, opened_top}
-use Rattle.tier_model.specs.LoadLaws.{marked_more, marked_none}
-use Rattle.tier_model.specs.BodyLaws.{marks_of, none_there, each-set, away_is_unmarked, body_is_there, marks_of_nothing}
-use Rattle.tier_model.specs.OpeningLaws.{load_of_held}
+use Rattle.tier_laws.specs.LoadLaws.{marked_more, marked_none}
+use Rattle.tier_laws.specs.BodyLaws.{marks_of, none_there, each-set, away_is_unmarked, body_is_there, marks_of_nothing}
+use Rattle.tier_laws.specs.OpeningLaws.{load_of_held}
 use Rattle.body_loads.specs.Loads.{patches_of}
 use Rattle.cache_chain.specs.Opening.{with_pins, MayPinAll}
 

@@ -8,11 +8,11 @@ use Rattle.token_words.specs.Changes.{Stays}
 use Rattle.tier_model.specs.declared.turns.Turn.{Turn}
 use Rattle.tier_model.specs.Tiers.{TierState, body_at, sizes_of}
 use Rattle.tier_model.specs.Answers.{IfGot, IfFault, IfChanged, IfKept}
-use Rattle.tier_model.specs.BodyLaws.{get-set_same}
+use Rattle.tier_laws.specs.BodyLaws.{get-set_same}
 use Rattle.tier_model.specs.Turns.{Board}
 use Rattle.tier_model.specs.Ties.{IsTied}
 use Rattle.tier_model.specs.Chains.{has_below}
-use Rattle.tier_model.specs.ChainLaws.{IsTopTied}
+use Rattle.tier_laws.specs.ChainLaws.{IsTopTied}
 use Rattle.tier_model.specs.Settling.{TurnsAt}
 use Rattle.transfer_step.specs.TurnWords.{told_of, TurnsEpochs, misses_in}
 use Rattle.cache_chain.specs.ChainStates.{IsFileBody, FindsChanged, AreTiersOf}

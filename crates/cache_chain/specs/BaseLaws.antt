@@ -9,8 +9,8 @@ use Rattle.file_model.specs.Rules.{IsIndex}
 use Rattle.mesh_model.specs.Graph.{is_root, leads_from, patches_from, outgoing}
 use Rattle.mesh_model.specs.Accepted.{IsNestedGraph}
 use Rattle.mesh_model.specs.Meshes.{MeshLists, IsMesh}
-use Rattle.frame_laws.specs.Ends.{HasEnds, each_has_ends}
-use Rattle.frame_laws.specs.Roots.{only_root_from_roots}
+use Rattle.mesh_laws.specs.Ends.{HasEnds, each_has_ends}
+use Rattle.mesh_laws.specs.Roots.{only_root_from_roots}
 use Rattle.accepted_mesh.specs.MeshLaws.{root_is}
 use Rattle.tier_model.specs.Places.{is_marked}
 use Rattle.tier_model.specs.Tiers.{base_marks}

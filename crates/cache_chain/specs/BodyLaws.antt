@@ -11,11 +11,11 @@ use Rattle.tier_model.specs.Changes.{reserved, arrived, aborted, committed, drop
 use Rattle.tier_model.specs.Choices.{Told}
 use Rattle.tier_model.specs.Answers.{IfGot}
 use Rattle.tier_model.specs.Turns.{Outcome, Board, begun, paired, outcome_in, IsTurn}
-use Rattle.tier_model.specs.ComingLaws.{bare_comes}
-use Rattle.tier_model.specs.BodyLaws.{each-set, there_is_body}
-use Rattle.tier_model.specs.TierLaws.{IsTier-begun}
-use Rattle.tier_model.specs.TurnLaws.{body_arrived, begun_places, turn_follows}
-use Rattle.tier_model.specs.Follows.{Follows, Reserves, Gets, Loses, Fails, Breaks, Commits, Evicts, Keeps, Rests}
+use Rattle.tier_laws.specs.ComingLaws.{bare_comes}
+use Rattle.tier_laws.specs.BodyLaws.{each-set, there_is_body}
+use Rattle.tier_laws.specs.TierLaws.{IsTier-begun}
+use Rattle.tier_laws.specs.TurnLaws.{body_arrived, begun_places, turn_follows}
+use Rattle.tier_laws.specs.Follows.{Follows, Reserves, Gets, Loses, Fails, Breaks, Commits, Evicts, Keeps, Rests}
 use Rattle.cache_chain.specs.ChainStates.{HasBodies}
 
 bodies-reserved : (P : ℕ → SeenBody → Type 0) (s : TierState) (p : ℕ) → HasBodies P s → HasBodies P (reserved s p)

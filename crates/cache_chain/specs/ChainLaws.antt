@@ -8,14 +8,14 @@ use Rattle.tier_model.specs.declared.turns.Turn.{Turn}
 use Rattle.tier_model.specs.Places.{is_marked}
 use Rattle.tier_model.specs.Tiers.{TierState, body_at, base_marks, IsTier}
 use Rattle.tier_model.specs.Answers.{IfGot}
-use Rattle.tier_model.specs.BodyLaws.{get-set_same, get-set_other}
+use Rattle.tier_laws.specs.BodyLaws.{get-set_same, get-set_other}
 use Rattle.tier_model.specs.Choices.{Told}
 use Rattle.tier_model.specs.Turns.{Board, begun, IsTurn}
-use Rattle.tier_model.specs.TurnLaws.{KeepsWishes}
+use Rattle.tier_model.specs.Keeping.{KeepsWishes}
 use Rattle.tier_model.specs.Chains.{is_top, has_below, epochs_then}
 use Rattle.tier_model.specs.Settling.{TurnsAt}
 use Rattle.tier_model.specs.Ties.{epochs_after, IsTied}
-use Rattle.tier_model.specs.ChainLaws.{IsTopTied}
+use Rattle.tier_laws.specs.ChainLaws.{IsTopTied}
 use Rattle.transfer_step.specs.TurnWords.{told_of}
 use Rattle.cache_chain.specs.ChainStates.{HasBodies, IsFileBody, IsTierOf, AreTiersOf}
 use Rattle.cache_chain.specs.AnswerMaps.{result_got_more}

@@ -12,12 +12,12 @@ use Rattle.tier_model.specs.Places.{is_marked}
 use Rattle.tier_model.specs.Tiers.{TierState, base_marks}
 use Rattle.tier_model.specs.Changes.{fresh}
 use Rattle.tier_model.specs.Turns.{Board}
-use Rattle.tier_model.specs.TurnLaws.{KeepsWishes}
+use Rattle.tier_model.specs.Keeping.{KeepsWishes}
 use Rattle.tier_model.specs.Ties.{IsTied}
-use Rattle.tier_model.specs.TieLaws.{tied-again}
+use Rattle.tier_laws.specs.TieLaws.{tied-again}
 use Rattle.tier_model.specs.Chains.{opened_top, opened_tiers, opened}
-use Rattle.tier_model.specs.ChainLaws.{IsTopTied}
-use Rattle.tier_model.specs.OpeningLaws.{each-opened, tied-opened}
+use Rattle.tier_laws.specs.ChainLaws.{IsTopTied}
+use Rattle.tier_laws.specs.OpeningLaws.{each-opened, tied-opened}
 use Rattle.cache_chain.specs.BaseLaws.{base_listed}
 use Rattle.cache_chain.specs.Opening.{IsOpened}
 use Rattle.cache_chain.specs.Turning.{chain_of, AllKeepWishes}

@@ -1,7 +1,7 @@
 -- A settling with its log: the turns that were made, each with the number of its tier.
 use Rattle.std.specs.Prelude.{◌≡◌, ℕ, ◌≤◌, List, ◌++◌, length, map}
 use Rattle.tier_model.specs.declared.turns.Turn.{Turn}
-use Rattle.tier_model.specs.ChainLaws.{IsTopTied}
+use Rattle.tier_laws.specs.ChainLaws.{IsTopTied}
 use Rattle.tier_model.specs.Settling.{TurnsToIdle, Settles}
 use Rattle.settling_laws.specs.Midway.{IsMidway, IsHalfSettled}
 use Rattle.cache_chain.specs.declared.parts.TurnLine.{TurnLine}

@@ -5,7 +5,7 @@ use Rattle.tier_model.specs.declared.turns.Turn.{Turn}
 use Rattle.tier_model.specs.Tiers.{TierState, body_at, IsTier}
 use Rattle.tier_model.specs.Answers.{IfGot, IfLost}
 use Rattle.tier_model.specs.Turns.{Board, begun, IsTurn, BringsBody}
-use Rattle.tier_model.specs.TurnLaws.{KeepsSetup, KeepsWishes}
+use Rattle.tier_model.specs.Keeping.{KeepsSetup, KeepsWishes}
 use Rattle.tier_model.specs.Choices.{Told}
 use Rattle.tier_model.specs.Chains.{Chain}
 

@@ -5,7 +5,7 @@ ghost use Rattle.view_outside.specs.Files.{HasFile, file_bytes};
 ghost use Rattle.tier_model.specs.Tiers.{TierState, is_held, sizes_of};
 ghost use Rattle.tier_model.specs.Chains.{has_below};
 ghost use Rattle.tier_model.specs.Ties.{IsTied};
-ghost use Rattle.tier_model.specs.TurnLaws.{KeepsWishes};
+ghost use Rattle.tier_model.specs.Keeping.{KeepsWishes};
 ghost use Rattle.transfer_step.specs.TurnWords.{told_of, board_of};
 ghost use Rattle.cache_chain.specs.ChainStates.{states_of, IsFileBody, FindsChanged};
 ghost use Rattle.cache_chain.specs.Turning.{AllKeepWishes, GivesBelow, TurnsState, TurnsTier, HaveSizes};

@@ -3,7 +3,7 @@ use Rattle.std.specs.Prelude.{◌≡◌, ◌≤◌, length}
 use Rattle.accepted_mesh.specs.MeshView.{MeshSeen}
 use Rattle.token_words.specs.declared.plain_words.PlainTokens.{PlainTokens}
 use Rattle.token_words.specs.PlainTokens.{patch_count, epoch_of, is_pinned}
-use Rattle.tier_model.specs.ChainLaws.{IsTopTied}
+use Rattle.tier_laws.specs.ChainLaws.{IsTopTied}
 use Rattle.transfer_step.specs.TurnWords.{board_of}
 use Rattle.cache_chain.specs.ChainStates.{ChainSeen}
 use Rattle.cache_chain.specs.Turning.{chain_of, AllKeepWishes}

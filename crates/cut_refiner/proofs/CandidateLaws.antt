@@ -6,7 +6,7 @@ use Rattle.std.specs.BinaryHeap.{IsHeap, IsUpperBound, PopsGreatest}
 use Rattle.std.proofs.lemmas.Bool.Decides.{nat_tests}
 use Rattle.std.proofs.lemmas.List.{nil_from_length}
 use Rattle.round_model.specs.Order.{Rules, comes_before}
-use Rattle.frame_laws.specs.Each.{each_then}
+use Rattle.mesh_laws.specs.Each.{each_then}
 use Rattle.cut_refiner.specs.declared.candidates.Candidate.{Candidate}
 use Rattle.cut_refiner.specs.Candidates.{candidate_order, is_tried_before, IsFirst}
 use Rattle.cut_refiner.specs.RefinementStates.{IsCandidate}

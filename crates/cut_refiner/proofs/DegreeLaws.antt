@@ -9,7 +9,7 @@ use Rattle.mesh_model.specs.Graph.{leads_from, patches_from, numbers_from}
 use Rattle.mesh_model.specs.Nets.{one_if}
 use Rattle.mesh_model.specs.Accepted.{is_inner}
 use Rattle.round_model.specs.Order.{Rules, node_order}
-use Rattle.frame_laws.specs.Each.{each_of_all}
+use Rattle.mesh_laws.specs.Each.{each_of_all}
 use Rattle.round_laws.specs.Ascending.{inner_nodes, order_permutes}
 use Rattle.cut_refiner.specs.Refiners.{degree}
 use Rattle.cut_refiner.proofs.PatchLaws.{sums_split, sum_of_none}

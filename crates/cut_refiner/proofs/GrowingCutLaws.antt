@@ -11,7 +11,7 @@ use Rattle.mesh_model.specs.Nets.{one_if}
 use Rattle.mesh_model.specs.Frames.{leads_out, triangles_in_all}
 use Rattle.mesh_model.specs.Meshes.{MeshLists, IsMesh}
 use Rattle.round_model.specs.Rounds.{has, with_member, frame_size}
-use Rattle.frame_laws.specs.Each.{each_from_places, each_passes, each_at, each_then, each_of_all}
+use Rattle.mesh_laws.specs.Each.{each_from_places, each_passes, each_at, each_then, each_of_all}
 use Rattle.round_laws.specs.Members.{still_has, had_or_is, has_member, empty_has_none}
 use Rattle.round_laws.specs.Parents.{levels_rise}
 use Rattle.cut_refiner.specs.GrowingCuts.{triangles_at, heads_at, missing_of, AreCounts, IsGrowingCut, IsGrowing}

@@ -10,7 +10,7 @@ use Rattle.round_model.specs.declared.asks.Ask.TheVariants.{Done}
 use Rattle.round_model.specs.Order.{Rules}
 use Rattle.round_model.specs.Rounds.{has, epochs_of}
 use Rattle.round_model.specs.Refiners.{Refining, round_state, pending_ask, cut_of, cut_patches}
-use Rattle.frame_laws.specs.Frames.{frame_of_set}
+use Rattle.mesh_laws.specs.Frames.{frame_of_set}
 use Rattle.round_laws.specs.Cuts.{round_is_cut, round_boundary}
 use Rattle.cut_refiner.specs.declared.refinement_states.RefinementState.{RefinementState}
 use Rattle.cut_refiner.specs.declared.cut_lists.CutLists.{CutLists}

@@ -10,9 +10,9 @@ use Rattle.mesh_model.specs.Accepted.{is_inner}
 use Rattle.mesh_model.specs.Meshes.{MeshLists}
 use Rattle.round_model.specs.Order.{Rules, comes_before, node_order}
 use Rattle.round_model.specs.Rounds.{has, with_member, has_parents, is_wanted, is_tried, root_set}
-use Rattle.frame_laws.specs.Each.{each_at}
-use Rattle.frame_laws.specs.Ends.{HasEnds, each_has_ends}
-use Rattle.frame_laws.specs.Roots.{IsOnlyRoot, only_root_from_roots}
+use Rattle.mesh_laws.specs.Each.{each_at}
+use Rattle.mesh_laws.specs.Ends.{HasEnds, each_has_ends}
+use Rattle.mesh_laws.specs.Roots.{IsOnlyRoot, only_root_from_roots}
 use Rattle.round_laws.specs.Members.{empty_has_none}
 use Rattle.round_laws.specs.Ascending.{Ascends, IsInnerNode, order_ascends, order_is_inner, order_has}
 use Rattle.round_laws.specs.Parents.{parent_before}

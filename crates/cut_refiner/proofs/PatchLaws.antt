@@ -7,7 +7,7 @@ use Rattle.std.proofs.lemmas.List.Sums.{sum_by-cons}
 use Rattle.std.proofs.lemmas.List.Elements.{All-from_recursion}
 use Rattle.file_model.specs.declared.fields.PatchField.{PatchField}
 use Rattle.mesh_model.specs.Graph.{patches_from, patches_where}
-use Rattle.frame_laws.specs.Each.{each_then}
+use Rattle.mesh_laws.specs.Each.{each_then}
 use Rattle.cut_refiner.specs.GrowingCuts.{at_patch}
 
 -- ---- sums

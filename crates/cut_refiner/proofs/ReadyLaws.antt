@@ -12,7 +12,7 @@ use Rattle.mesh_model.specs.Graph.{leads_to}
 use Rattle.mesh_model.specs.Nets.{one_if}
 use Rattle.round_model.specs.Order.{Rules, comes_before, node_order}
 use Rattle.round_model.specs.Rounds.{has, has_parents, is_wanted, is_within_limit, is_tried}
-use Rattle.frame_laws.specs.Each.{each_at}
+use Rattle.mesh_laws.specs.Each.{each_at}
 use Rattle.round_laws.specs.Ascending.{Ascends, IsInnerNode, order_ascends, order_is_inner}
 use Rattle.round_laws.specs.Passing.{gone_before}
 use Rattle.cut_refiner.specs.declared.candidates.Candidate.{Candidate}

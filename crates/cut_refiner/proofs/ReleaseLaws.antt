@@ -12,7 +12,7 @@ use Rattle.mesh_model.specs.Graph.{is_sink}
 use Rattle.mesh_model.specs.Meshes.{MeshLists}
 use Rattle.round_model.specs.Order.{Rules, score, level, node_order}
 use Rattle.round_model.specs.Rounds.{is_wanted}
-use Rattle.frame_laws.specs.Each.{each_from_places}
+use Rattle.mesh_laws.specs.Each.{each_from_places}
 use Rattle.cut_refiner.specs.declared.candidates.Candidate.{Candidate}
 use Rattle.round_laws.specs.Among.{is_among}
 use Rattle.cut_refiner.specs.RefinementStates.{IsCandidate, times_of, is_ready, IsWaiting}

@@ -47,7 +47,7 @@ impl<'m> Refiner<'m> {
     ghost use Rattle.round_model.specs.Rounds.{has, IsWhole};
     ghost use Rattle.round_model.specs.Refiners.{round_state, pending_ask, after_answer, after_release, cut_of, cut_patches};
     ghost use Rattle.round_model.specs.declared.asks.Ask.TheVariants.{Lock, GiveBack, Done};
-    ghost use Rattle.frame_laws.specs.Frames.{frame_of_set};
+    ghost use Rattle.mesh_laws.specs.Frames.{frame_of_set};
     ghost use Rattle.round_model.specs.Views.{rules_of};
 
     /// A round at its start, in which a frame with more than `limit` triangles is not refined to. Only

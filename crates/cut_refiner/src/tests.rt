@@ -2,11 +2,11 @@
 
 use super::*;
 use accepted_mesh::Mesh;
-use error_metric::View;
 use file_model::Try;
 use grid_vertex::Point;
 use mesh_graph::MeshGraph;
 use patch_file::read_index;
+use round_model::View;
 use sample_files::{chain, strip};
 use std::alloc::Global;
 use std::process::Abort;

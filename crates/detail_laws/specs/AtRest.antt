@@ -8,11 +8,11 @@ use Rattle.tier_model.specs.declared.turns.Coming.{Coming}
 use Rattle.tier_model.specs.Places.{is_marked, is_coming}
 use Rattle.tier_model.specs.Tiers.{TierState, count, size, kept_wish, is_held, load}
 use Rattle.tier_model.specs.Ranks.{outranks}
-use Rattle.tier_model.specs.RankLaws.{outranks_is_ranking}
+use Rattle.tier_laws.specs.RankLaws.{outranks_is_ranking}
 use Rattle.tier_model.specs.Choices.{Told, candidate, victim}
-use Rattle.tier_model.specs.Chosen.{IsEligible, IsCandidate, candidate_is_highest, no_candidate, no_victim}
+use Rattle.tier_laws.specs.Chosen.{IsEligible, IsCandidate, candidate_is_highest, no_candidate, no_victim}
 use Rattle.tier_model.specs.Turns.{fitting, entering, leaving}
-use Rattle.tier_model.specs.Follows.{AtRest}
+use Rattle.tier_laws.specs.Follows.{AtRest}
 use Rattle.settling_laws.specs.ChangeLaws.{nothing_there}
 use Rattle.detail_laws.specs.Needs.{is_needed, needed_bytes, KeepsBase}
 use Rattle.detail_laws.specs.NeedLaws.{marks_of_held, load_at_rest, room_beside}

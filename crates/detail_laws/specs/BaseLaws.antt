@@ -12,11 +12,11 @@ use Rattle.tier_model.specs.Changes.{arrived, aborted, passed_over, calmed, fres
 use Rattle.tier_model.specs.Choices.{Told}
 use Rattle.tier_model.specs.Turns.{Outcome, Board, begun, paired, outcome_in, IsTurn}
 use Rattle.tier_model.specs.Chains.{opened_top, opened_tiers}
-use Rattle.tier_model.specs.ComingLaws.{arrived_comes}
-use Rattle.tier_model.specs.Follows.{Follows, Reserves, Gets, Loses, Fails, Breaks, Commits, Evicts, Keeps, Rests}
-use Rattle.tier_model.specs.TierLaws.{IsTier-begun}
-use Rattle.tier_model.specs.TurnLaws.{turn_follows}
-use Rattle.tier_model.specs.OpeningLaws.{each-opened}
+use Rattle.tier_laws.specs.ComingLaws.{arrived_comes}
+use Rattle.tier_laws.specs.Follows.{Follows, Reserves, Gets, Loses, Fails, Breaks, Commits, Evicts, Keeps, Rests}
+use Rattle.tier_laws.specs.TierLaws.{IsTier-begun}
+use Rattle.tier_laws.specs.TurnLaws.{turn_follows}
+use Rattle.tier_laws.specs.OpeningLaws.{each-opened}
 use Rattle.settling_laws.specs.ChangeLaws.{ready_from}
 use Rattle.detail_laws.specs.Needs.{KeepsBase, IsCalm}
 use Rattle.detail_laws.specs.GatherLaws.{base-reserved, base-committed, base-dropped, gone_stays_away}

@@ -15,12 +15,12 @@ use Rattle.tier_model.specs.Choices.{Told}
 use Rattle.tier_model.specs.Turns.{Outcome, Board, begun, paired, outcome_in, entering}
 use Rattle.tier_model.specs.Chains.{Chain, told_at}
 use Rattle.tier_model.specs.Settling.{TurnsAt, TurnsToIdle, Last, More}
-use Rattle.tier_model.specs.ComingLaws.{full_comes, bare_comes, bare_not_full, reserved_comes, reserved_others, reserved_full, arrived_comes, arrived_full, arrived_others, gone_comes, gone_came, gone_others, gone_full, gone_full_others}
-use Rattle.tier_model.specs.BodyLaws.{away_not_there}
-use Rattle.tier_model.specs.TierLaws.{comes_within, IsTier-begun}
-use Rattle.tier_model.specs.Follows.{AtRest, Enters, Leaves, Follows, Reserves, Gets, Loses, Fails, Breaks, Commits, Evicts, Keeps, Rests}
-use Rattle.tier_model.specs.TurnLaws.{alike-followed, begun_same, turn_follows, version-turned, IsTier-turned}
-use Rattle.tier_model.specs.ChainLaws.{tier_here}
+use Rattle.tier_laws.specs.ComingLaws.{full_comes, bare_comes, bare_not_full, reserved_comes, reserved_others, reserved_full, arrived_comes, arrived_full, arrived_others, gone_comes, gone_came, gone_others, gone_full, gone_full_others}
+use Rattle.tier_laws.specs.BodyLaws.{away_not_there}
+use Rattle.tier_laws.specs.TierLaws.{comes_within, IsTier-begun}
+use Rattle.tier_laws.specs.Follows.{AtRest, Enters, Leaves, Follows, Reserves, Gets, Loses, Fails, Breaks, Commits, Evicts, Keeps, Rests}
+use Rattle.tier_laws.specs.TurnLaws.{alike-followed, begun_same, turn_follows, version-turned, IsTier-turned}
+use Rattle.tier_laws.specs.ChainLaws.{tier_here}
 use Rattle.settling_laws.specs.Stages.{sum_below}
 use Rattle.settling_laws.specs.ChangeLaws.{nothing_there, IsReady, ready_from, held-committed}
 use Rattle.detail_laws.specs.Needs.{IsTierReady, GoesWell, GoWell}

@@ -15,9 +15,9 @@ use Rattle.tier_model.specs.Changes.{reserved, arrived, aside_after, aborted, co
 use Rattle.tier_model.specs.Ties.{risen, epochs_after}
 use Rattle.tier_model.specs.Choices.{Told}
 use Rattle.tier_model.specs.Turns.{Outcome}
-use Rattle.tier_model.specs.ComingLaws.{reserved_comes, reserved_others, arrived_comes, gone_comes, gone_others, gone_came}
-use Rattle.tier_model.specs.TieLaws.{risen_here, risen_other, epochs_rise}
-use Rattle.tier_model.specs.Follows.{Enters, Leaves, Follows, Reserves, Gets, Loses, Fails, Breaks, Commits, Evicts, Keeps, Rests}
+use Rattle.tier_laws.specs.ComingLaws.{reserved_comes, reserved_others, arrived_comes, gone_comes, gone_others, gone_came}
+use Rattle.tier_laws.specs.TieLaws.{risen_here, risen_other, epochs_rise}
+use Rattle.tier_laws.specs.Follows.{Enters, Leaves, Follows, Reserves, Gets, Loses, Fails, Breaks, Commits, Evicts, Keeps, Rests}
 use Rattle.settling_laws.specs.Underway.{IsLater, AreSpentAbove}
 use Rattle.settling_laws.specs.FewTurns.{eligible_before}
 use Rattle.settling_laws.specs.ChangeLaws.{spent_with, spent_here, spent_other, above-reserved, above-arrived, above-aborted, above-committed, above-dropped, above-passed_over, lost_is_never, victim_unspent, nothing_there, IsReady, ready_from, held-committed}

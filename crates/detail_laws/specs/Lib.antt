@@ -8,5 +8,4 @@ pub mod BaseLaws
 pub mod TurnsLeft
 pub mod ExactTurns
 pub mod Wanted
-pub mod FullRounds
 pub mod Reached

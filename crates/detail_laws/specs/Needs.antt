@@ -8,7 +8,7 @@ use Rattle.tier_model.specs.Places.{is_marked, is_coming}
 use Rattle.tier_model.specs.Tiers.{TierState, count, size, is_held, IsTier}
 use Rattle.tier_model.specs.Turns.{Board}
 use Rattle.tier_model.specs.Chains.{Chain}
-use Rattle.tier_model.specs.TurnLaws.{KeepsWishes}
+use Rattle.tier_model.specs.Keeping.{KeepsWishes}
 use Rattle.settling_laws.specs.Stages.{sum_below}
 
 -- the patch is pinned, or is no base patch and is wished, passed over or in use

@@ -10,7 +10,7 @@ use Rattle.file_model.specs.Tries.{is_odd}
 use Rattle.mesh_model.specs.Graph.{is_root, is_sink}
 use Rattle.round_model.specs.Order.{Rules, score}
 use Rattle.round_model.specs.Rounds.{has, round_of}
-use Rattle.frame_laws.specs.Each.{each_both}
+use Rattle.mesh_laws.specs.Each.{each_both}
 use Rattle.round_laws.specs.Cuts.{IsRootOrWanted, round_members, round_is_cut}
 use Rattle.tier_model.specs.declared.turns.Turn.{Turn}
 use Rattle.tier_model.specs.Places.{is_marked}
@@ -18,12 +18,13 @@ use Rattle.tier_model.specs.Tiers.{TierState, is_held, base_marks}
 use Rattle.tier_model.specs.Ranks.{Posted, view_wish, node_wish, wish_of}
 use Rattle.tier_model.specs.Turns.{Board}
 use Rattle.tier_model.specs.Chains.{Chain, has_below}
-use Rattle.tier_model.specs.ChainLaws.{AreTiers, tied_settled}
+use Rattle.tier_laws.specs.ChainLaws.{AreTiers, tied_settled}
 use Rattle.tier_model.specs.Settling.{Settles}
 use Rattle.detail_laws.specs.Needs.{GoWell, IsHeldIn, AreReady}
 use Rattle.detail_laws.specs.Settled.{settled-holds, settled-count}
-use Rattle.detail_laws.specs.Wanted.{AreGranted, AreAnsweredBy, IsOfWanted, IsPosted, SettlesWell, IsRoundOf}
-use Rattle.detail_laws.specs.FullRounds.{full_round, tries_are_of_wanted}
+use Rattle.round_laws.specs.Wanted.{AreGranted, IsOfWanted}
+use Rattle.detail_laws.specs.Wanted.{AreAnsweredBy, IsPosted, SettlesWell, IsRoundOf}
+use Rattle.round_laws.specs.FullRounds.{full_round, tries_are_of_wanted}
 
 -- ---- a patch of a wanted node is wished, and no base patch
 

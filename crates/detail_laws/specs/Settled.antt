@@ -14,10 +14,11 @@ use Rattle.tier_model.specs.Choices.{Told}
 use Rattle.tier_model.specs.Turns.{Outcome, Board, begun, paired, outcome_in}
 use Rattle.tier_model.specs.Chains.{Chain, has_below, is_top, told_at, epochs_then}
 use Rattle.tier_model.specs.Settling.{TurnsAt, TurnsToIdle, Last, More, Settles, Settled, Tier}
-use Rattle.tier_model.specs.Follows.{AtRest, Follows, Reserves, Gets, Loses, Fails, Breaks, Commits, Evicts, Keeps, Rests}
-use Rattle.tier_model.specs.TierLaws.{IsTier-begun}
-use Rattle.tier_model.specs.TurnLaws.{IsAlike, alike-followed, begun_same, begun_places, begun_wishes, turn_follows, setup-turned, version-turned, IsTier-turned}
-use Rattle.tier_model.specs.ChainLaws.{tier_here, others_stay, epochs_stay}
+use Rattle.tier_laws.specs.Follows.{AtRest, Follows, Reserves, Gets, Loses, Fails, Breaks, Commits, Evicts, Keeps, Rests}
+use Rattle.tier_laws.specs.TierLaws.{IsTier-begun}
+use Rattle.tier_laws.specs.TurnLaws.{alike-followed, begun_same, begun_places, begun_wishes, turn_follows, setup-turned, version-turned, IsTier-turned}
+use Rattle.tier_model.specs.Keeping.{IsAlike}
+use Rattle.tier_laws.specs.ChainLaws.{tier_here, others_stay, epochs_stay}
 use Rattle.settling_laws.specs.FewTurns.{later_after}
 use Rattle.detail_laws.specs.Needs.{KeepsBase, IsCalm, IsTierReady, GoesWell, GoWell, IsHeldIn, AreReady}
 use Rattle.detail_laws.specs.NeedLaws.{needed_same}

@@ -14,24 +14,12 @@ use Rattle.tier_model.specs.Tiers.{base_marks}
 use Rattle.tier_model.specs.Ranks.{Posted, wish_of}
 use Rattle.tier_model.specs.Turns.{Board}
 use Rattle.tier_model.specs.Chains.{Chain}
-use Rattle.tier_model.specs.ChainLaws.{IsTopTied}
+use Rattle.tier_laws.specs.ChainLaws.{IsTopTied}
 use Rattle.tier_model.specs.Settling.{Settles}
 use Rattle.detail_laws.specs.Needs.{GoWell, AreReady}
+use Rattle.round_laws.specs.Wanted.{FitsWanted}
 
 -- ---- the view
-
--- the set with all these nodes
-unfoldable pub with_members : List Bool → List ℕ → List Bool
-with_members set [] = set
-with_members set (v ∷ vs) = with_members (with_member set v) vs
-
--- the view wants each of the nodes
-abbrev pub AreWanted : Rules → List ℕ → Type 0
-AreWanted rules vs = AllByRecursion (λ v. is_wanted rules v ≡ true) vs
-
--- the frame of the root and the first wanted nodes of the order, however many, has at most `limit` triangles
-pub record FitsWanted (rules : Rules) : Type 0 where
-  pub fits : (first rest : List ℕ) → node_order rules ≡ first ++ rest → AreWanted rules first → frame_size (has (with_members (root_set rules) first)) rules.mesh.index.fields ≤ rules.limit
 
 -- the board's wishes are those of posted views, and the view is among them
 pub record IsPosted (rules : Rules) (board : Board) : Type 0 where
@@ -42,20 +30,9 @@ pub record IsPosted (rules : Rules) (board : Board) : Type 0 where
 
 -- ---- the round
 
--- each try was granted
-abbrev pub AreGranted : List Try → Type 0
-AreGranted tries = AllByRecursion (λ (t : Try). is_odd t.epoch ≡ true) tries
-
 -- each try was answered by its patch's epoch
 abbrev pub AreAnsweredBy : (ℕ → ℕ) → List Try → Type 0
 AreAnsweredBy epochs tries = AllByRecursion (λ (t : Try). t.epoch ≡ epochs t.patch) tries
-
--- the patch leads from an inner node that the view wants
-pub record IsOfWanted (rules : Rules) (p : ℕ) : Type 0 where
-  pub field : PatchField
-  pub there : slice_get rules.mesh.index.fields p ≡ Some field
-  pub inner : IsInnerNode rules field.tail
-  pub wanted : is_wanted rules field.tail ≡ true
 
 -- ---- a settling, and a round of the view behind it
 

@@ -19,7 +19,7 @@ ghost use Rattle.tier_model.specs.declared.turns.Turn.{Turn};
 ghost use Rattle.tier_model.specs.Places.{is_marked};
 ghost use Rattle.tier_model.specs.Tiers.{TierState, count, kept_wish, is_held, IsTier};
 ghost use Rattle.tier_model.specs.Choices.{Told};
-ghost use Rattle.tier_model.specs.Follows.{AtRest};
+ghost use Rattle.tier_laws.specs.Follows.{AtRest};
 ghost use Rattle.tier_model.specs.Turns.{Board, begun, IsTurn};
 ghost use Rattle.tier_model.specs.Chains.{Chain, has_below, told_at, opened_tiers};
 ghost use Rattle.tier_model.specs.Settling.{TurnsToIdle, Settles};
@@ -29,7 +29,8 @@ ghost use Rattle.detail_laws.specs.Gathers.{Gathers};
 ghost use Rattle.detail_laws.specs.AtRest.{HasRoom};
 ghost use Rattle.detail_laws.specs.TurnsLeft.{is_due, turns_left, HoldsNeeded};
 ghost use Rattle.detail_laws.specs.ExactTurns.{IsStraight, BeginsWithBase};
-ghost use Rattle.detail_laws.specs.Wanted.{FitsWanted, AreGranted, IsOfWanted, SettlesWell, IsRoundOf};
+ghost use Rattle.round_laws.specs.Wanted.{FitsWanted, AreGranted, IsOfWanted};
+ghost use Rattle.detail_laws.specs.Wanted.{SettlesWell, IsRoundOf};
 
 /// A tier at rest, in a settling that went well so far, holds each patch that is wished and that the tier below
 /// has, where there is room for all that is needed.

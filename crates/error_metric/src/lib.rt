@@ -9,7 +9,6 @@ mod views;
 mod wants;
 
 pub use scoring::scores_of;
-pub use views::View;
 pub use wants::Want;
 
 #[cfg(test)]

@@ -4,6 +4,7 @@ use super::*;
 use crate::scores::score_of_node;
 use file_model::Node;
 use grid_vertex::{Ball, Point};
+use round_model::View;
 use std::test::Fail;
 
 fn view(x: i32, focal: u32, threshold: u32) -> Option<View> {

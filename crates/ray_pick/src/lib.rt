@@ -19,7 +19,7 @@ mod vectors;
 
 pub use crossings::hit_triangle;
 pub use picks::{Hit, pick};
-pub use rays::{ORIGIN_REACH, DIRECTION_REACH, Ray};
+pub use rays::{DIRECTION_REACH, ORIGIN_REACH, Ray};
 
 /// A triangle is hit at one fraction.
 pub fn a_triangle_is_hit_once()

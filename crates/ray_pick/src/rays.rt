@@ -37,14 +37,18 @@ impl Model for Ray {
 fn is_near(point: Point) -> bool
     ensures { result ≡ is_point_within ORIGIN_REACH point }
 {
-    is_on_axis(ORIGIN_REACH, point.x) && is_on_axis(ORIGIN_REACH, point.y) && is_on_axis(ORIGIN_REACH, point.z)
+    is_on_axis(ORIGIN_REACH, point.x)
+        && is_on_axis(ORIGIN_REACH, point.y)
+        && is_on_axis(ORIGIN_REACH, point.z)
 }
 
 // Whether each coordinate is in a direction's range.
 fn is_short(point: Point) -> bool
     ensures { result ≡ is_point_within DIRECTION_REACH point }
 {
-    is_on_axis(DIRECTION_REACH, point.x) && is_on_axis(DIRECTION_REACH, point.y) && is_on_axis(DIRECTION_REACH, point.z)
+    is_on_axis(DIRECTION_REACH, point.x)
+        && is_on_axis(DIRECTION_REACH, point.y)
+        && is_on_axis(DIRECTION_REACH, point.z)
 }
 
 // Whether the coordinate is in -limit to limit.

@@ -8,8 +8,8 @@ use Rattle.std.proofs.lemmas.List.Sorted.{IsPermutation-refl, IsPermutation-sym,
 use Rattle.mesh_model.specs.Graph.{numbers_from, nodes_where}
 use Rattle.mesh_model.specs.Accepted.{is_inner}
 use Rattle.round_model.specs.Order.{Rules, comes_before, with_node, sorted_nodes, node_order}
-use Rattle.frame_laws.specs.Each.{each_then, each_at}
-use Rattle.frame_laws.specs.Roots.{IsPassing}
+use Rattle.mesh_laws.specs.Each.{each_then, each_at}
+use Rattle.mesh_laws.specs.Roots.{IsPassing}
 use Rattle.round_laws.specs.Before.{before_transitive, before_total}
 
 -- each comes before all that follow it

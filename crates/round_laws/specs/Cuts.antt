@@ -16,11 +16,11 @@ use Rattle.mesh_model.specs.Meshes.{IsMesh}
 use Rattle.round_model.specs.Order.{Rules, node_order}
 use Rattle.round_model.specs.Tries.{Tried, Verdict, Granted, Refused, OpenAt, tried_patches}
 use Rattle.round_model.specs.Rounds.{RoundState, has, with_member, frame_size, is_wanted, has_parents, is_within_limit, is_tried, after_verdict, after_tries, round_from, root_set, round_of}
-use Rattle.frame_laws.specs.Each.{each_passes, each_at}
-use Rattle.frame_laws.specs.Roots.{only_root_from_roots}
-use Rattle.frame_laws.specs.Bases.{base_is_cut}
-use Rattle.frame_laws.specs.Boundary.{boundary}
-use Rattle.frame_laws.specs.Frames.{frame_of_set}
+use Rattle.mesh_laws.specs.Each.{each_passes, each_at}
+use Rattle.mesh_laws.specs.Roots.{only_root_from_roots}
+use Rattle.mesh_laws.specs.Bases.{base_is_cut}
+use Rattle.mesh_laws.specs.Boundary.{boundary}
+use Rattle.mesh_laws.specs.Frames.{frame_of_set}
 use Rattle.round_laws.specs.Ascending.{IsInnerNode, order_is_inner}
 use Rattle.round_laws.specs.Members.{still_has, had_or_is, has_member, empty_has_none, as_many_members}
 

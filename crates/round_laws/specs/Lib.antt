@@ -10,3 +10,6 @@ pub mod Steps
 pub mod Parents
 pub mod Passing
 pub mod Among
+pub mod Arcs
+pub mod Wanted
+pub mod FullRounds

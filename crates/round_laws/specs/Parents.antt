@@ -14,8 +14,8 @@ use Rattle.mesh_model.specs.Accepted.{is_inner, nested_by, has_no_more_error, ha
 use Rattle.mesh_model.specs.Meshes.{MeshLists, IsMesh}
 use Rattle.round_model.specs.Scores.{score_of}
 use Rattle.round_model.specs.Order.{Rules, score, comes_before, node_order}
-use Rattle.frame_laws.specs.Each.{each_at}
-use Rattle.frame_laws.specs.Ends.{HasEnds, each_has_ends}
+use Rattle.mesh_laws.specs.Each.{each_at}
+use Rattle.mesh_laws.specs.Ends.{HasEnds, each_has_ends}
 use Rattle.round_laws.specs.Before.{decides_before, before_never_itself, before_one_way}
 use Rattle.round_laws.specs.Ascending.{IsInnerNode, order_is_inner, order_ascends, ascends_at, order_has, first_is}
 use Rattle.round_laws.specs.Falls.{score_falls}

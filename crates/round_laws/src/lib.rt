@@ -23,7 +23,7 @@ ghost use Rattle.round_model.specs.Order.{Rules, comes_before, node_order};
 ghost use Rattle.file_model.specs.Tries.{is_odd};
 ghost use Rattle.round_model.specs.Tries.{OpenAt, tried_patches};
 ghost use Rattle.round_model.specs.Rounds.{NodeInProgress, RoundState, epochs_of, has, with_member, frame_size, is_tried, round_from, root_set, round_of};
-ghost use Rattle.frame_laws.specs.Frames.{frame_of_set};
+ghost use Rattle.mesh_laws.specs.Frames.{frame_of_set};
 ghost use Rattle.round_laws.specs.Ascending.{Ascends, inner_nodes, IsInnerNode};
 ghost use Rattle.round_laws.specs.Answers.{IsAnswered, IsOpenAt, with_unused, try_of};
 ghost use Rattle.round_laws.specs.Epochs.{with_spare, StandsAt};

@@ -4,7 +4,7 @@ use Rattle.std.specs.Option.{option_map}
 use Rattle.round_model.specs.Views.{ViewSeen}
 use Rattle.session_model.specs.Sessions.{SessionState}
 use Rattle.tier_model.specs.Tiers.{TierState}
-use Rattle.tier_model.specs.TurnLaws.{KeepsWishes}
+use Rattle.tier_model.specs.Keeping.{KeepsWishes}
 use Rattle.run_model.specs.Worlds.{World}
 use Rattle.run_model.specs.States.{State, board_of, posted_by}
 

@@ -3,7 +3,7 @@
 use Rattle.std.specs.Prelude.{◌≡◌, ℕ, ◌≤◌, Bool, true, List, length, Option, Some, slice_get, IfSome}
 use Rattle.file_model.specs.Lists.{BodyLists, SeenBody}
 use Rattle.mesh_model.specs.Meshes.{MeshLists, IsMesh}
-use Rattle.session_model.specs.Arcs.{is_from}
+use Rattle.round_laws.specs.Arcs.{is_from}
 use Rattle.tier_model.specs.Places.{marked_bytes}
 use Rattle.tier_model.specs.Tiers.{TierState, IsWidth, IsBodyFor, sizes_of, base_marks}
 

@@ -3,7 +3,7 @@
 ghost use Rattle.std.specs.Prelude.{◌≡◌};
 ghost use Rattle.script_model.specs.Orders.{session_of};
 
-use error_metric::View;
+use round_model::View;
 
 /// What a line of a script orders.
 #[derive(Clone, Copy, Debug, PartialEq, Eq)]

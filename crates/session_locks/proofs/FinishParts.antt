@@ -8,7 +8,7 @@ use Rattle.session_model.specs.declared.steps.Stepped.TheVariants.{Unlocked, Tri
 use Rattle.session_model.specs.Sessions.{settled}
 use Rattle.session_model.specs.Steps.{stepped, step, try_pairs, IsOfEpochs}
 use Rattle.session_model.specs.Finishes.{Steps, NoStep, OneMore, Finishes}
-use Rattle.session_model.specs.FinishLaws.{after_steps, finished}
+use Rattle.session_laws.specs.FinishLaws.{after_steps, finished}
 use Rattle.session_locks.specs.Sessions.{SessionSeen, IsSession}
 use Rattle.session_locks.specs.Taken.{TakesStep, Stops, TakesSteps}
 

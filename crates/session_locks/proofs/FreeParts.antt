@@ -10,9 +10,9 @@ use Rattle.session_model.specs.Sessions.{SessionState, uses}
 use Rattle.session_model.specs.Steps.{FreeStep, freed, free_step}
 use Rattle.session_model.specs.Counts.{count_below}
 use Rattle.session_model.specs.Freeing.{uses_left, Frees, unlocks_in, FreesAll, NoUse, MoreUse}
-use Rattle.session_model.specs.FreeLaws.{freed_has_no_use, freed_has_no_round}
+use Rattle.session_laws.specs.FreeLaws.{freed_has_no_use, freed_has_no_round}
 use Rattle.session_model.specs.Told.{SessionTold}
-use Rattle.session_model.specs.ToldLaws.{told_frees}
+use Rattle.session_laws.specs.ToldLaws.{told_frees}
 use Rattle.session_locks.specs.Sessions.{SessionSeen, IsSession}
 use Rattle.session_locks.specs.Taken.{TakesFreeStep, TakesFreeSteps}
 

@@ -10,11 +10,11 @@ use Rattle.session_model.specs.declared.steps.Stepped.{Stepped}
 use Rattle.session_model.specs.declared.steps.Stepped.TheVariants.{Unlocked, Tried, Withdrew, GaveBack, Done}
 use Rattle.session_model.specs.Sessions.{SessionState, is_left_over, uses, least_old, round_ended, settled, without_flight, without_old}
 use Rattle.session_model.specs.Steps.{SessionStep, stepped, begun_round, round_or_begun, with_round, after_try, answer_ask, go_on, unlock_or, withdraw_or, step, FreeStep, freed, free_old, free_or, free_step}
-use Rattle.session_model.specs.StateLaws.{ended_like, settled_is, settled_like, settled_going}
-use Rattle.session_model.specs.FreeLaws.{free_step_is}
+use Rattle.session_laws.specs.StateLaws.{ended_like, settled_is, settled_like, settled_going}
+use Rattle.session_laws.specs.FreeLaws.{free_step_is}
 use Rattle.session_model.specs.Freeing.{DoesFree, Frees}
 use Rattle.session_model.specs.Does.{steps_left}
-use Rattle.session_model.specs.StepLaws.{step_is, none_old_in, same_ask}
+use Rattle.session_laws.specs.StepLaws.{step_is, none_old_in, same_ask}
 use Rattle.session_locks.specs.Sessions.{SessionSeen, with_state, IsSession}
 use Rattle.session_locks.specs.Taken.{asked_of, Starts, GoesOn, TakesStep, Stops, TakesFreeStep}
 

@@ -5,7 +5,7 @@ use Rattle.token_words.specs.Sessions.{IsSession}
 use Rattle.token_words.specs.PlainTokens.{patch_count, is_user, is_locker, IsUnused}
 use Rattle.token_words.specs.declared.plain_words.PlainTokens.{PlainTokens}
 use Rattle.session_model.specs.Sessions.{SessionState, locks, uses, opened, with_view}
-use Rattle.session_model.specs.StateLaws.{none_left_over, opened_uses}
+use Rattle.session_laws.specs.StateLaws.{none_left_over, opened_uses}
 use Rattle.session_locks.specs.Sessions.{SessionSeen, with_state}
 use Rattle.session_locks.specs.Passes.{IsPassOf, HasSameUses}
 

@@ -3,8 +3,8 @@
 use crate::locked_patches::LockedPatches;
 use accepted_mesh::Mesh;
 use cut_refiner::Refiner;
-use error_metric::View;
 use grid_vertex::NoMemory;
+use round_model::View;
 use std::alloc::Global;
 use std::marker::Model;
 

@@ -8,12 +8,11 @@ ghost use Rattle.token_words.specs.Sessions.{IsSession};
 
 use super::*;
 use accepted_mesh::Mesh;
-use error_metric::View;
 use file_model::Try;
 use grid_vertex::Point;
 use mesh_graph::MeshGraph;
 use patch_file::read_index;
-use round_model::Ask;
+use round_model::{Ask, View};
 use sample_files::strip;
 use std::alloc::Global;
 use std::process::Abort;

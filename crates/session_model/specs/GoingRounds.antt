@@ -4,7 +4,7 @@ use Rattle.mesh_model.specs.Meshes.{IsMesh}
 use Rattle.round_model.specs.Refiners.{Refining, round_state}
 use Rattle.round_laws.specs.Among.{is_among}
 use Rattle.session_model.specs.Locks.{was_granted, leads_from_held}
-use Rattle.session_model.specs.Arcs.{AreApart}
+use Rattle.round_laws.specs.Arcs.{AreApart}
 
 -- the patch was granted, and its node missed
 pub record IsOwed (r : Refining) (p : ℕ) : Type 0 where

@@ -1,8 +1,6 @@
 pub mod Locks
 pub mod Sessions
 pub mod Steps
-pub mod Arcs
-pub mod Asks
 pub mod GoingRounds
 pub mod Counts
 pub mod SessionStates
@@ -11,17 +9,3 @@ pub mod DoneRounds
 pub mod Finishes
 pub mod Freeing
 pub mod Told
-pub mod Tested
-pub mod Passed
-pub mod Resting
-pub mod Refinings
-pub mod StateLaws
-pub mod StepLaws
-pub mod FreeLaws
-pub mod NextStates
-pub mod DoneLaws
-pub mod FrameLocks
-pub mod FinishLaws
-pub mod ToldLaws
-pub mod WholeLaws
-pub mod GivenAnswers

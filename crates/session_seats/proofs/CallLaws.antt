@@ -8,7 +8,7 @@ use Rattle.script_model.specs.declared.orders.Order.TheVariants as orders
 use Rattle.session_model.specs.declared.steps.Stepped.{Stepped}
 use Rattle.session_model.specs.Sessions.{SessionState, is_left_over, uses, settled}
 use Rattle.session_model.specs.Steps.{stepped, step}
-use Rattle.session_model.specs.StateLaws.{none_used}
+use Rattle.session_laws.specs.StateLaws.{none_used}
 use Rattle.session_model.specs.Finishes.{Steps, NoStep, Finishes}
 use Rattle.token_words.specs.Changes.{Stays}
 use Rattle.token_words.specs.PlainTokens.{words_seen, epoch_in}
@@ -22,7 +22,7 @@ use Rattle.session_seats.specs.SeatChanges.{ChangesSeat}
 use Rattle.session_seats.specs.Orders.{DoesOrder, ReachesSeats, LacksRound, StopsStep, StopsRound, FinishesRound, FreesUses}
 use Rattle.session_seats.specs.SeatLaws.{seat_is, told_stays}
 use Rattle.session_seats.specs.OrderLaws.{steps, frees, stops}
-use Rattle.session_model.specs.ToldLaws.{told_settled, settled_flight, told_stepped, told_steps, told_finishes, told_frees}
+use Rattle.session_laws.specs.ToldLaws.{told_settled, settled_flight, told_stepped, told_steps, told_finishes, told_frees}
 use Rattle.session_seats.specs.SeatParts.{seat_state, sessions_of, AreSeats}
 use Rattle.session_seats.specs.SeatSteps.{KeepsSeat, SeatSteps, SeatStops, SeatFinishes, SeatStopsAfter}
 use Rattle.session_seats.proofs.PartLaws.{old_seat, number, old_state, many, changes}

@@ -6,7 +6,7 @@ use Rattle.mesh_model.specs.Meshes.{MeshLists}
 use Rattle.script_model.specs.declared.orders.Order.TheVariants as orders
 use Rattle.session_model.specs.Sessions.{SessionState, locks, opened}
 use Rattle.session_model.specs.SessionStates.{IsSessionState}
-use Rattle.session_model.specs.StateLaws.{none_left_over, opened_is, opened_uses}
+use Rattle.session_laws.specs.StateLaws.{none_left_over, opened_is, opened_uses}
 use Rattle.session_locks.specs.Sessions.{SessionSeen}
 use Rattle.session_locks.specs.Sessions.{session_of as session_over}
 use Rattle.token_words.specs.Changes.{SetAt}
@@ -22,7 +22,7 @@ use Rattle.session_seats.specs.SeatChanges.{ChangesSeat}
 use Rattle.session_seats.specs.Orders.{DoesOrder}
 use Rattle.session_seats.specs.SeatLaws.{seated_now, told_set}
 use Rattle.session_seats.specs.OrderLaws.{opens, keeps_words}
-use Rattle.session_model.specs.ToldLaws.{told_opened}
+use Rattle.session_laws.specs.ToldLaws.{told_opened}
 use Rattle.session_seats.specs.SeatParts.{IsSeat, AreSeats}
 use Rattle.session_seats.proofs.PartLaws.{are_seats_set}
 use Rattle.session_seats.proofs.CallLaws.{seats_seen}

@@ -10,7 +10,7 @@ use Rattle.round_model.specs.Refiners.{Refining}
 use Rattle.round_model.specs.Views.{ViewSeen}
 use Rattle.session_model.specs.Sessions.{SessionState, locks, uses, round_ended, with_view, printed_once, counted_from}
 use Rattle.session_model.specs.SessionStates.{IsSessionState, like_uses}
-use Rattle.session_model.specs.StateLaws.{counted_is, counted_uses, counted_locks, ended_like, viewed_is, viewed_locks, printed_is, printed_locks}
+use Rattle.session_laws.specs.StateLaws.{counted_is, counted_uses, counted_locks, ended_like, viewed_is, viewed_locks, printed_is, printed_locks}
 use Rattle.session_locks.specs.Sessions.{SessionSeen, with_state}
 use Rattle.token_words.specs.Changes.{SetAt}
 use Rattle.token_words.specs.Sessions.{IsSession}
@@ -22,7 +22,7 @@ use Rattle.session_model.specs.Told.{SessionTold, session_told, told_view, one_f
 use Rattle.session_seats.specs.SeatChanges.{ChangesSeat}
 use Rattle.session_seats.specs.SeatLaws.{seated_now, told_set}
 use Rattle.session_seats.specs.OrderLaws.{same_uses, printed_uses}
-use Rattle.session_model.specs.ToldLaws.{told_viewed, told_printed, told_counted}
+use Rattle.session_laws.specs.ToldLaws.{told_viewed, told_printed, told_counted}
 use Rattle.session_seats.specs.SeatParts.{seat_state, IsSeat, AreSeats}
 use Rattle.session_seats.proofs.PartLaws.{at_sessions, sessions_set, sessions_many, seat_read, seat_number, are_seats_set}
 use Rattle.session_seats.proofs.CallLaws.{seats_seen}

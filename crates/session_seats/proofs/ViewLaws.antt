@@ -4,7 +4,7 @@ use Rattle.mesh_model.specs.Meshes.{MeshLists}
 use Rattle.round_model.specs.Views.{ViewSeen}
 use Rattle.script_model.specs.declared.orders.Order.TheVariants as orders
 use Rattle.session_model.specs.Sessions.{SessionState, with_view}
-use Rattle.session_model.specs.StateLaws.{viewed_locks}
+use Rattle.session_laws.specs.StateLaws.{viewed_locks}
 use Rattle.token_words.specs.Sessions.{IsSession}
 use Rattle.token_words.specs.declared.entries.Entry.{Entry}
 use Rattle.token_words.specs.declared.session_sets.TheConstants.{SESSIONS}

@@ -18,8 +18,8 @@ use Rattle.wish_board.specs.Boards.{view_of as view_on, with_view as board_with}
 use Rattle.wish_board.specs.BoardLaws.{fits_with_view}
 use Rattle.run_model.specs.States.{State, seated, posting, posting_of, posted_by}
 use Rattle.run_model.specs.Lines.{DidView, DidClose, taken_off, Does, DoesView, DoesClose}
-use Rattle.session_model.specs.FreeLaws.{freed_has_no_use}
-use Rattle.run_model.specs.SessionReach.{seat_twice}
+use Rattle.session_laws.specs.FreeLaws.{freed_has_no_use}
+use Rattle.run_laws.specs.SessionReach.{seat_twice}
 use Rattle.session_seats.specs.Seats.{SeatsSeen, at_seat, state_of}
 use Rattle.session_seats.specs.SeatChanges.{ChangesSeat}
 use Rattle.session_seats.specs.Boards.{IsBoardFor, posted_on}

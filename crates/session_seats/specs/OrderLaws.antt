@@ -12,8 +12,8 @@ use Rattle.session_model.specs.declared.steps.Stepped.{Stepped}
 use Rattle.session_model.specs.declared.steps.Stepped.TheVariants.{Done}
 use Rattle.session_model.specs.Sessions.{SessionState, is_left_over, locks, uses, least_old, opened, round_ended, settled, with_view, printed_once}
 use Rattle.session_model.specs.Steps.{SessionStep, stepped, step, step_by, IsOfEpochs, FreeStep, free_old, free_or, free_step}
-use Rattle.session_model.specs.StepLaws.{some_old_in}
-use Rattle.session_model.specs.StateLaws.{printed_locks}
+use Rattle.session_laws.specs.StepLaws.{some_old_in}
+use Rattle.session_laws.specs.StateLaws.{printed_locks}
 use Rattle.session_model.specs.Finishes.{Steps, NoStep, OneMore, Finishes}
 use Rattle.tier_model.specs.Chains.{Chain}
 use Rattle.tier_model.specs.Tiers.{TierState}
@@ -28,7 +28,7 @@ use Rattle.run_model.specs.Events.{Happens, Frees, Reaches, Stays, Then}
 use Rattle.run_model.specs.Events.{Steps as SessionSteps}
 use Rattle.session_model.specs.Freeing.{FreesAll}
 use Rattle.run_model.specs.Lines.{Did, DidOpen, DidStep, DidFrame, DidFree, frame_of, Does, DoesOpen, DoesStep, DoesFrame, DoesFree}
-use Rattle.run_model.specs.SessionReach.{reaches_both, reaches_then, seat_twice, seat_at, seat_chain, GoesTo, steps_go, steps_view, made_by, goes_nowhere, frees_reach}
+use Rattle.run_laws.specs.SessionReach.{reaches_both, reaches_then, seat_twice, seat_at, seat_chain, GoesTo, steps_go, steps_view, made_by, goes_nowhere, frees_reach}
 use Rattle.session_seats.specs.Seats.{SeatsSeen, at_seat, with_seat, state_of, AreSeated}
 use Rattle.session_seats.specs.SeatChanges.{KeepsWords, ChangesSeat}
 use Rattle.session_seats.specs.Orders.{DoesOrder, ReachesSeats, FinishesRound, FreesUses}

@@ -19,7 +19,7 @@ use Rattle.token_words.specs.PlainTokens.{epoch_in, is_user_in, is_locker_in}
 use Rattle.token_words.specs.declared.entries.Entry.{Entry}
 use Rattle.token_words.specs.declared.session_sets.TheConstants.{SESSIONS}
 use Rattle.run_model.specs.States.{State, put, seat_uses, seated, posting}
-use Rattle.run_model.specs.SeatLaws.{put_here, put_other}
+use Rattle.run_laws.specs.SeatLaws.{put_here, put_other}
 use Rattle.session_seats.specs.Seats.{at_seat, state_of, AreSeated, IsOpen, HasView, told_at}
 use Rattle.session_model.specs.Told.{SessionTold, session_told}
 use Rattle.session_seats.specs.SeatChanges.{KeepsWords, ChangesSeat}

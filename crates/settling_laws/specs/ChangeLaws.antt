@@ -13,12 +13,12 @@ use Rattle.tier_model.specs.Tiers.{TierState, count, kept_wish, is_held, IsTier}
 use Rattle.tier_model.specs.Changes.{reserved, arrived, aside_after, aborted, committed, dropped, passed_over}
 use Rattle.tier_model.specs.Ranks.{outranks}
 use Rattle.tier_model.specs.Choices.{Told}
-use Rattle.tier_model.specs.ComingLaws.{full_comes, nothing_comes, reserved_comes, reserved_others, reserved_full, arrived_comes, arrived_full, arrived_others, gone_comes, gone_others, gone_full, gone_full_others, first_comes, bare_comes, bare_not_full, all_are_full}
-use Rattle.tier_model.specs.BodyLaws.{away_not_there}
-use Rattle.tier_model.specs.RankLaws.{outranks_is_ranking, outranks_never_itself}
-use Rattle.tier_model.specs.TierLaws.{comes_within}
-use Rattle.tier_model.specs.Chosen.{IsEligible}
-use Rattle.tier_model.specs.Follows.{Enters, Leaves}
+use Rattle.tier_laws.specs.ComingLaws.{full_comes, nothing_comes, reserved_comes, reserved_others, reserved_full, arrived_comes, arrived_full, arrived_others, gone_comes, gone_others, gone_full, gone_full_others, first_comes, bare_comes, bare_not_full, all_are_full}
+use Rattle.tier_laws.specs.BodyLaws.{away_not_there}
+use Rattle.tier_laws.specs.RankLaws.{outranks_is_ranking, outranks_never_itself}
+use Rattle.tier_laws.specs.TierLaws.{comes_within}
+use Rattle.tier_laws.specs.Chosen.{IsEligible}
+use Rattle.tier_laws.specs.Follows.{Enters, Leaves}
 use Rattle.settling_laws.specs.Stages.{Stage, Fixed, Free, Full, Bare, Away, stage_by, is_fixed, stage, weight_at}
 use Rattle.settling_laws.specs.Underway.{AreSpentAbove, IsUnderway}
 use Rattle.settling_laws.specs.WeightLaws.{stage_is, stage_same, away_to_bare, bare_to_full, bare_to_away, full_to_held, free_to_away, free_to_fixed, underway-step}

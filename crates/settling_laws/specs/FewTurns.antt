@@ -11,12 +11,12 @@ use Rattle.tier_model.specs.Choices.{Told}
 use Rattle.tier_model.specs.Turns.{Outcome, Board, begun, paired, outcome_in, IsRankedTurn}
 use Rattle.tier_model.specs.Chains.{Chain, has_below, told_at, epochs_then}
 use Rattle.tier_model.specs.Settling.{TurnsAt, TurnsToIdle, Last, More}
-use Rattle.tier_model.specs.TierLaws.{IsTier-begun}
-use Rattle.tier_model.specs.Chosen.{IsEligible}
-use Rattle.tier_model.specs.Follows.{Follows, Reserves, Gets, Loses, Fails, Breaks, Commits, Evicts, Keeps, Rests}
-use Rattle.tier_model.specs.TurnLaws.{begun_same, begun_places, ranked_follows, turn_is_ranked, setup-turned, version-turned, IsTier-turned}
-use Rattle.tier_model.specs.TieLaws.{epochs_rise}
-use Rattle.tier_model.specs.ChainLaws.{tier_here, others_stay}
+use Rattle.tier_laws.specs.TierLaws.{IsTier-begun}
+use Rattle.tier_laws.specs.Chosen.{IsEligible}
+use Rattle.tier_laws.specs.Follows.{Follows, Reserves, Gets, Loses, Fails, Breaks, Commits, Evicts, Keeps, Rests}
+use Rattle.tier_laws.specs.TurnLaws.{begun_same, begun_places, ranked_follows, turn_is_ranked, setup-turned, version-turned, IsTier-turned}
+use Rattle.tier_laws.specs.TieLaws.{epochs_rise}
+use Rattle.tier_laws.specs.ChainLaws.{tier_here, others_stay}
 use Rattle.settling_laws.specs.Underway.{IsLater, IsUnderway}
 use Rattle.settling_laws.specs.WeightLaws.{weights_at_most}
 use Rattle.settling_laws.specs.ChangeLaws.{underway-reserved, underway-arrived, underway-lost, underway-fault, underway-changed, underway-committed, underway-dropped, underway-passed_over}

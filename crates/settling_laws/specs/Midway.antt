@@ -9,8 +9,8 @@ use Rattle.tier_model.specs.Tiers.{TierState, count, IsTier}
 use Rattle.tier_model.specs.Turns.{Board, begun}
 use Rattle.tier_model.specs.Chains.{Chain, told_at}
 use Rattle.tier_model.specs.Settling.{TurnsAt, TurnsToIdle, Last, More, Settles, Settled, Tier}
-use Rattle.tier_model.specs.TurnLaws.{setup-turned, begun_places, IsTier-turned}
-use Rattle.tier_model.specs.ChainLaws.{tier_here}
+use Rattle.tier_laws.specs.TurnLaws.{setup-turned, begun_places, IsTier-turned}
+use Rattle.tier_laws.specs.ChainLaws.{tier_here}
 use Rattle.settling_laws.specs.Underway.{IsUnderway}
 use Rattle.settling_laws.specs.FewTurns.{underway-begins, underway-at}
 

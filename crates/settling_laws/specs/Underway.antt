@@ -3,7 +3,7 @@ use Rattle.std.specs.Prelude.{◌≡◌, ℕ, ◌+◌, ◌*◌, ◌<◌, ◌≤�
 use Rattle.tier_model.specs.Tiers.{TierState, count, kept_wish}
 use Rattle.tier_model.specs.Ranks.{outranks}
 use Rattle.tier_model.specs.Choices.{Told}
-use Rattle.tier_model.specs.Chosen.{IsEligible}
+use Rattle.tier_laws.specs.Chosen.{IsEligible}
 use Rattle.settling_laws.specs.Stages.{weights}
 
 -- the tier below is the same, and at the top no epoch has fallen

@@ -11,7 +11,7 @@ use Rattle.mesh_model.specs.Nets.{net, HaveOneNet}
 use Rattle.mesh_model.specs.Frames.{leads_out, frame_patches, frame_triangles, IsCut}
 use Rattle.mesh_model.specs.Accepted.{IsAccepted, triangles_out_of}
 use Rattle.mesh_model.specs.Meshes.{MeshLists, IsMesh}
-use Rattle.frame_laws.specs.Frames.{frame_of_set}
+use Rattle.mesh_laws.specs.Frames.{frame_of_set}
 use Rattle.round_laws.specs.Cuts.{round_is_cut, round_boundary}
 use Rattle.text_model.specs.FrameText.{Frame, IsFrameText}
 use Rattle.file_model.specs.Lists.{SeenBody}

@@ -11,8 +11,8 @@ use Rattle.mesh_model.specs.Graph.{numbers_from, nodes_where, outgoing, leads_fr
 use Rattle.mesh_model.specs.Nets.{net}
 use Rattle.mesh_model.specs.Frames.{root_alone}
 use Rattle.mesh_model.specs.Accepted.{triangles_out_of}
-use Rattle.frame_laws.specs.Bases.{base_is_cut, base_patches, base_triangles}
-use Rattle.frame_laws.specs.Roots.{only_root_from_roots}
+use Rattle.mesh_laws.specs.Bases.{base_is_cut, base_patches, base_triangles}
+use Rattle.mesh_laws.specs.Roots.{only_root_from_roots}
 use Rattle.text_model.specs.Lines.{Adds}
 use Rattle.text_model.specs.FrameText.{Frame, IsFrameText}
 use Rattle.file_model.specs.Lists.{SeenBody}

@@ -15,7 +15,7 @@ ghost use Rattle.still_texts.specs.Texts.{GivesText};
 use crate::rounds::round_text;
 use accepted_mesh::Mesh;
 use body_loads::LoadRefusal;
-use error_metric::View;
+use round_model::View;
 use std::alloc::Global;
 use view_outside::Store;
 use view_planes::Planes;

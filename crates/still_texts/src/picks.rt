@@ -15,10 +15,10 @@ ghost use Rattle.still_texts.specs.Texts.{GivesText};
 use crate::rounds::granted_round;
 use accepted_mesh::Mesh;
 use body_loads::{LoadRefusal, load_bodies};
-use error_metric::View;
 use frame_writer::{Part, add_line};
 use grid_vertex::NoMemory;
 use ray_pick::{Hit, Ray, pick};
+use round_model::View;
 use std::alloc::Global;
 use view_outside::Store;
 

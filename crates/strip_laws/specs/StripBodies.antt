@@ -12,7 +12,7 @@ use Rattle.grid_vertex.specs.Triangles.{is_flat_triangle}
 use Rattle.file_model.specs.Lists.{Corners, triangle_of, point_at_place}
 use Rattle.file_model.specs.Spelling.{least, origin_of}
 use Rattle.file_model.specs.Rules.{is_near_origin, is_narrow, is_triangle, is_body}
-use Rattle.frame_laws.specs.Each.{each_then}
+use Rattle.mesh_laws.specs.Each.{each_then}
 use Rattle.strip_laws.specs.Strip.{flat, low, high, middle, halfway, square_body, left_body, right_body, round_body}
 use Rattle.strip_laws.specs.EdgeNets.{tri}
 use Rattle.strip_laws.specs.Kinds.{each_map}

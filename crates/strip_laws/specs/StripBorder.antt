@@ -16,9 +16,9 @@ use Rattle.mesh_model.specs.Nets.{one_if, is_edge, net, is_before, Pair, is_forw
 use Rattle.mesh_model.specs.Orders.{before_one_way, point_exact}
 use Rattle.mesh_model.specs.Frames.{IsCut}
 use Rattle.mesh_model.specs.Accepted.{triangles_out_of}
-use Rattle.frame_laws.specs.Boundary.{boundary}
-use Rattle.frame_laws.specs.Frames.{frame_of_set}
-use Rattle.frame_laws.specs.OpenEdges.{open_of_one_net}
+use Rattle.mesh_laws.specs.Boundary.{boundary}
+use Rattle.mesh_laws.specs.Frames.{frame_of_set}
+use Rattle.mesh_laws.specs.OpenEdges.{open_of_one_net}
 use Rattle.strip_laws.specs.Strip.{flat, low, high, square, strip_patches, fields_of, strip_file}
 use Rattle.strip_laws.specs.Picks.{own}
 use Rattle.strip_laws.specs.EdgeNets.{tri, seen, turned, times_none, times_of}

@@ -9,9 +9,9 @@ use Rattle.file_model.specs.Lists.{triangles_from}
 use Rattle.mesh_model.specs.Graph.{leads_from, is_sink, roots, patches_from}
 use Rattle.mesh_model.specs.Frames.{triangles_where, leads_out, frame_patches, root_alone, IsCut}
 use Rattle.mesh_model.specs.Accepted.{triangles_out_of}
-use Rattle.frame_laws.specs.Each.{each_fails, each_at}
-use Rattle.frame_laws.specs.Frames.{frame_of_set}
-use Rattle.frame_laws.specs.Bases.{base_patches, base_triangles}
+use Rattle.mesh_laws.specs.Each.{each_fails, each_at}
+use Rattle.mesh_laws.specs.Frames.{frame_of_set}
+use Rattle.mesh_laws.specs.Bases.{base_patches, base_triangles}
 use Rattle.strip_laws.specs.Strip.{StripPatch, square_at, edge_at, square, left_half, right_half, halves, opened, strip_nodes, strip_patches, fields_of, bodies_of, strip_file}
 use Rattle.strip_laws.specs.Kinds.{EachKind, each_field, kinds_of_fields}
 use Rattle.strip_laws.specs.Picks.{given, given_some, given_none, own, chosen_given, flat_nested, parts_by_kind, none_from, ends_from}

@@ -5,7 +5,7 @@ use Rattle.std.proofs.lemmas.Bool.{cases_eq, cases_lt, eq-eqb, ne_eqb, eqb-false
 use Rattle.file_model.specs.declared.fields.PatchField.{PatchField}
 use Rattle.mesh_model.specs.Graph.{leads_to, leads_from, is_root, is_sink, roots, numbers_from}
 use Rattle.mesh_model.specs.Walks.{IsBound, IsGrounded}
-use Rattle.frame_laws.specs.Each.{each_fails, each_at}
+use Rattle.mesh_laws.specs.Each.{each_fails, each_at}
 use Rattle.strip_laws.specs.Strip.{square_at, edge_at, strip_patches, fields_of}
 use Rattle.strip_laws.specs.Kinds.{EachKind, each_field, kinds_of_fields}
 

@@ -12,7 +12,7 @@ use Rattle.file_model.specs.declared.fields.Node.{Node}
 use Rattle.file_model.specs.declared.fields.PatchField.{PatchField}
 use Rattle.mesh_model.specs.Graph.{is_sink}
 use Rattle.mesh_model.specs.Accepted.{nested_by, is_nested, AllNested, has_no_more_error, has_ball_within}
-use Rattle.frame_laws.specs.Each.{each_at}
+use Rattle.mesh_laws.specs.Each.{each_at}
 use Rattle.strip_laws.specs.Strip.{flat, node_at, root_node, square_node, edge_node, sink_node, strip_nodes, square_at, edge_at, strip_patches, fields_of, strip_file}
 use Rattle.strip_laws.specs.Kinds.{each_field}
 use Rattle.strip_laws.specs.StripGraph.{edge_is, last_is_sink}

@@ -13,7 +13,7 @@ ghost use Rattle.file_model.specs.Rules.{is_version, IsPatchFile};
 ghost use Rattle.mesh_model.specs.Nets.{AreOpen, HasOpenPairs};
 ghost use Rattle.mesh_model.specs.Frames.{triangles_in_all, frame_patches, root_alone, IsCut};
 ghost use Rattle.mesh_model.specs.Accepted.{IsAccepted};
-ghost use Rattle.frame_laws.specs.Frames.{frame_of_set};
+ghost use Rattle.mesh_laws.specs.Frames.{frame_of_set};
 ghost use Rattle.strip_laws.specs.Strip.{strip_nodes, strip_patches, fields_of, strip_file};
 ghost use Rattle.strip_laws.specs.StripFrames.{all_inner};
 ghost use Rattle.strip_laws.specs.Borders.{pairs_of};

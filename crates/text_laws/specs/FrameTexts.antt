@@ -7,7 +7,7 @@ use Rattle.mesh_model.specs.Frames.{triangles_in_all}
 use Rattle.mesh_model.specs.Accepted.{triangles_out_of}
 use Rattle.text_model.specs.FrameText.{Frame, IsFrameText, frame_text}
 use Rattle.text_model.specs.AcceptedText.{IsAcceptedText, accepted_line}
-use Rattle.frame_laws.specs.OpenEdges.{open_is_one}
+use Rattle.mesh_laws.specs.OpenEdges.{open_is_one}
 
 count_is_one : (triangles : List Triangle) (m n : ℕ) → HasOpenPairs triangles m → HasOpenPairs triangles n → m ≡ n
 count_is_one triangles m n h k = sym h.number ∙ ap length (open_is_one triangles h.pairs k.pairs h.are_open k.are_open) ∙ k.number

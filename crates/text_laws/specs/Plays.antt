@@ -5,9 +5,9 @@ use Rattle.file_model.specs.Lists.{FileLists}
 use Rattle.mesh_model.specs.Graph.{roots}
 use Rattle.script_model.specs.declared.orders.Line.{Line}
 use Rattle.run_model.specs.Worlds.{World, IsWorld}
-use Rattle.run_model.specs.ToldWorlds.{IsWorldOver}
+use Rattle.run_laws.specs.ToldWorlds.{IsWorldOver}
 use Rattle.run_model.specs.RunTexts.{StoreOutcome, IsRunText}
-use Rattle.run_model.specs.OneRun.{run_text_is_one}
+use Rattle.run_laws.specs.OneRun.{run_text_is_one}
 use Rattle.text_laws.specs.Meshes.{mesh_is_one}
 
 -- the world is of the file of these bytes, with these budgets and this width

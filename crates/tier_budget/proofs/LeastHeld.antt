@@ -7,7 +7,7 @@ use Rattle.tier_heap.specs.Laws.{id_in_range}
 use Rattle.tier_model.specs.Places.{is_marked}
 use Rattle.tier_model.specs.Tiers.{TierState, count, kept_wish, is_held}
 use Rattle.tier_model.specs.Ranks.{outranks}
-use Rattle.tier_model.specs.RankLaws.{outranks_is_ranking}
+use Rattle.tier_laws.specs.RankLaws.{outranks_is_ranking}
 use Rattle.tier_model.specs.Choices.{IsTopmost, may_leave}
 use Rattle.tier_budget.specs.Heaps.{leaving_rank, IsLeaving}
 

@@ -7,7 +7,7 @@ use Rattle.file_model.specs.Lists.{IndexLists, SeenBody, body_size}
 use Rattle.tier_heap.specs.Laws.{rank_at-replicate}
 use Rattle.tier_model.specs.declared.turns.Abort.{Abort}
 use Rattle.std.proofs.lemmas.Option.{slice_get_within}
-use Rattle.tier_model.specs.BodyLaws.{away_not_there}
+use Rattle.tier_laws.specs.BodyLaws.{away_not_there}
 use Rattle.tier_model.specs.Places.{is_marked}
 use Rattle.tier_model.specs.Tiers.{TierState, count, kept_wish, is_held, IsTier}
 use Rattle.tier_model.specs.Changes.{fresh, reserved, arrived, aborted, committed, dropped, passed_over, calmed, with_pin}

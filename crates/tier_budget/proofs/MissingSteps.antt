@@ -12,7 +12,7 @@ use Rattle.tier_model.specs.declared.turns.Coming.{Coming}
 use Rattle.tier_model.specs.Places.{is_marked, is_coming}
 use Rattle.tier_model.specs.Tiers.{TierState, count, kept_wish, is_held, IsTier}
 use Rattle.tier_model.specs.Changes.{fresh, reserved, arrived, aside_after, aborted, committed, dropped, passed_over, none_marked, calmed, with_pin}
-use Rattle.tier_model.specs.ComingLaws.{reserved_comes, reserved_others, arrived_comes, gone_others}
+use Rattle.tier_laws.specs.ComingLaws.{reserved_comes, reserved_others, arrived_comes, gone_others}
 use Rattle.tier_budget.specs.Marked.{AreListed}
 use Rattle.tier_budget.specs.Heaps.{missing_rank, missing_told, missing_at, IsMissing, Refreshes}
 use Rattle.tier_budget.specs.TierView.{TierSeen}

@@ -10,10 +10,10 @@ use Rattle.tier_model.specs.declared.turns.Turn.TheVariants.{Reserve, Evict, Got
 use Rattle.tier_model.specs.Places.{after, load_of, first_bare, without}
 use Rattle.tier_model.specs.Tiers.{TierState, count, size, places, load, IsWidth, IsBodyFor, IsTier, sizes_of}
 use Rattle.tier_model.specs.Changes.{fresh, reserved, arrived, aborted, committed, dropped, passed_over, calmed, renewed, ranked, with_pin}
-use Rattle.tier_model.specs.ComingLaws.{first_comes, bare_comes, all_are_full}
-use Rattle.tier_model.specs.LoadLaws.{load-reserve, load-got, load-lost, load-commit, load-evict, marked_more, marked_none}
-use Rattle.tier_model.specs.BodyLaws.{marks_of, away_is_unmarked}
-use Rattle.tier_model.specs.TierLaws.{IsTier-reserved, IsTier-arrived, IsTier-aborted, IsTier-committed, IsTier-dropped, IsTier-passed_over, IsTier-calmed, IsTier-renewed, IsTier-ranked, comes_within}
+use Rattle.tier_laws.specs.ComingLaws.{first_comes, bare_comes, all_are_full}
+use Rattle.tier_laws.specs.LoadLaws.{load-reserve, load-got, load-lost, load-commit, load-evict, marked_more, marked_none}
+use Rattle.tier_laws.specs.BodyLaws.{marks_of, away_is_unmarked}
+use Rattle.tier_laws.specs.TierLaws.{IsTier-reserved, IsTier-arrived, IsTier-aborted, IsTier-committed, IsTier-dropped, IsTier-passed_over, IsTier-calmed, IsTier-renewed, IsTier-ranked, comes_within}
 use Rattle.tier_budget.specs.TierView.{TierSeen, Allows, IsSoundTier}
 use Rattle.tier_budget.proofs.SumLaws.{count_more, count_fewer, marked_within}
 use Rattle.tier_budget.proofs.StartLaws.{IsTier-fresh, fresh_load, IsTier-with_pin, pinned_load, stands, load_is_pinned, marks_of_bodies}

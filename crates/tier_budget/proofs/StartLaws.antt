@@ -9,9 +9,9 @@ use Rattle.tier_model.specs.declared.turns.Turn.{Turn}
 use Rattle.tier_model.specs.Places.{Places, AreApart, is_coming, is_full, marked_bytes, coming_bytes, load_of, Replays, Begins, Goes}
 use Rattle.tier_model.specs.Tiers.{TierState, IsWidth, IsBodyFor, IsTier, places, load, sizes_of, pinned_bytes}
 use Rattle.tier_model.specs.Changes.{fresh, with_pin}
-use Rattle.tier_model.specs.ComingLaws.{nothing_comes}
-use Rattle.tier_model.specs.LoadLaws.{marked_none, marked_more}
-use Rattle.tier_model.specs.BodyLaws.{each-set, none_there, marks_of_nothing, away_is_unmarked}
+use Rattle.tier_laws.specs.ComingLaws.{nothing_comes}
+use Rattle.tier_laws.specs.LoadLaws.{marked_none, marked_more}
+use Rattle.tier_laws.specs.BodyLaws.{each-set, none_there, marks_of_nothing, away_is_unmarked}
 
 -- nothing held, and nothing coming
 abbrev pub nothing : ℕ → Places

@@ -7,7 +7,7 @@ use Rattle.std.proofs.lemmas.List.Sums.{sum_by-set}
 use Rattle.std.proofs.lemmas.Option.{slice_get_within}
 use Rattle.file_model.specs.Lists.{SeenBody}
 use Rattle.tier_model.specs.Tiers.{TierState, count, size, places, IsTier}
-use Rattle.tier_model.specs.BodyLaws.{away_not_there}
+use Rattle.tier_laws.specs.BodyLaws.{away_not_there}
 use Rattle.tier_budget.specs.TierView.{TierSeen}
 
 -- one for a body, else 0

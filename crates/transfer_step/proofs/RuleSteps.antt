@@ -15,11 +15,11 @@ use Rattle.tier_model.specs.Tiers.{TierState, count, size, load, pinned_bytes, p
 use Rattle.tier_model.specs.Changes.{reserved, arrived, aborted, committed, dropped, passed_over, calmed}
 use Rattle.tier_model.specs.Choices.{Told, is_missing, candidate, victim}
 use Rattle.tier_model.specs.Turns.{Outcome, fetched_in, uses_in, outcome_in, paired, fitting, entering, leaving, fetching, evicting, leave_or_idle, commit_or, fetch_or, reserve_or, ranked_turn_of, IsRankedTurn}
-use Rattle.tier_model.specs.Chosen.{candidate-is, candidate_is_highest, IsVictim, victim_is_lowest}
-use Rattle.tier_model.specs.ComingLaws.{bare_comes}
-use Rattle.tier_model.specs.BodyLaws.{not_there_is_away, away_is_unmarked}
-use Rattle.tier_model.specs.Follows.{enters_from}
-use Rattle.tier_model.specs.TurnLaws.{body_arrived}
+use Rattle.tier_laws.specs.Chosen.{candidate-is, candidate_is_highest, IsVictim, victim_is_lowest}
+use Rattle.tier_laws.specs.ComingLaws.{bare_comes}
+use Rattle.tier_laws.specs.BodyLaws.{not_there_is_away, away_is_unmarked}
+use Rattle.tier_laws.specs.Follows.{enters_from}
+use Rattle.tier_laws.specs.TurnLaws.{body_arrived}
 use Rattle.transfer_step.specs.TurnWords.{sought}
 
 -- ---- the candidate

@@ -13,9 +13,10 @@ use Rattle.tier_model.specs.Answers.{IfLost}
 use Rattle.tier_model.specs.Turns.{Outcome, Board, begun, paired, outcome_in, IsRankedTurn, IsTurn}
 use Rattle.tier_model.specs.Ties.{epochs_after, IsTied}
 use Rattle.tier_model.specs.Counts.{entries_of}
-use Rattle.tier_model.specs.Follows.{Follows, Reserves, Gets, Loses, Fails, Breaks, Commits, Evicts, Keeps, Rests}
-use Rattle.tier_model.specs.TieLaws.{tied-again, tied-followed}
-use Rattle.tier_model.specs.TurnLaws.{KeepsSetup, KeepsWishes, ranked_follows, alike-followed, journal-followed, begun_places, begun_wishes, turn-from_ranked, wishes-turned}
+use Rattle.tier_laws.specs.Follows.{Follows, Reserves, Gets, Loses, Fails, Breaks, Commits, Evicts, Keeps, Rests}
+use Rattle.tier_laws.specs.TieLaws.{tied-again, tied-followed}
+use Rattle.tier_laws.specs.TurnLaws.{ranked_follows, alike-followed, journal-followed, begun_places, begun_wishes, turn-from_ranked, wishes-turned}
+use Rattle.tier_model.specs.Keeping.{KeepsSetup, KeepsWishes}
 use Rattle.transfer_step.specs.TurnWords.{told_of, next_size, TurnsEpochs}
 
 -- ---- over the kept wishes

@@ -7,9 +7,9 @@ use Rattle.tier_model.specs.declared.turns.Turn.TheVariants.{Reserve, Evict, Kep
 use Rattle.tier_model.specs.Places.{is_coming}
 use Rattle.tier_model.specs.Tiers.{TierState, IsTier}
 use Rattle.tier_model.specs.Ties.{risen, epochs_after, IsTied}
-use Rattle.tier_model.specs.TieLaws.{risen_here, risen_other}
-use Rattle.tier_model.specs.BodyLaws.{away_not_there}
-use Rattle.tier_model.specs.TierLaws.{comes_within}
+use Rattle.tier_laws.specs.TieLaws.{risen_here, risen_other}
+use Rattle.tier_laws.specs.BodyLaws.{away_not_there}
+use Rattle.tier_laws.specs.TierLaws.{comes_within}
 use Rattle.transfer_step.specs.TurnWords.{TurnsEpochs}
 
 risen_is : (v : ℕ) (before after : ℕ → ℕ) → SetAt before v (before v + 1) after → (p : ℕ) → after p ≡ risen v before p

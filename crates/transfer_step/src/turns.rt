@@ -10,7 +10,7 @@ ghost use Rattle.tier_model.specs.Answers.{IfGot, IfLost, IfFault, IfChanged, If
 ghost use Rattle.tier_model.specs.Turns.{begun, IsRankedTurn, IsTurn, BringsBody};
 ghost use Rattle.tier_model.specs.Ties.{IsTied};
 ghost use Rattle.tier_model.specs.Counts.{entries_of};
-ghost use Rattle.tier_model.specs.TurnLaws.{KeepsSetup, KeepsWishes};
+ghost use Rattle.tier_model.specs.Keeping.{KeepsSetup, KeepsWishes};
 ghost use Rattle.transfer_step.specs.TurnWords.{told_of, board_of, next_size, TurnsEpochs, TurnTakes, misses_in};
 
 use crate::rules::do_rule;

@@ -14,7 +14,7 @@ use Rattle.script_model.specs.declared.orders.Order.TheVariants as orders
 use Rattle.session_model.specs.Sessions.{SessionState}
 use Rattle.text_model.specs.FrameText.{Frame, IsFrameText}
 use Rattle.tier_model.specs.Tiers.{TierState}
-use Rattle.tier_model.specs.BodyLaws.{body_is_there}
+use Rattle.tier_laws.specs.BodyLaws.{body_is_there}
 use Rattle.token_words.specs.Changes.{SetAt, Stays}
 use Rattle.token_words.specs.declared.entries.Entry.{Entry}
 use Rattle.token_words.specs.declared.session_sets.TheConstants.{SESSIONS}
@@ -26,7 +26,7 @@ use Rattle.run_model.specs.Worlds.{World, patch_count}
 use Rattle.run_model.specs.States.{State}
 use Rattle.run_model.specs.Safe.{IsSafe}
 use Rattle.run_model.specs.Lines.{DidFrame, Does, top_body, frame_of}
-use Rattle.run_model.specs.PrintedFrames.{frame_held}
+use Rattle.run_laws.specs.PrintedFrames.{frame_held}
 use Rattle.session_seats.specs.Orders.{FinishesRound}
 use Rattle.session_seats.specs.Seats.{SeatsSeen, IsDoneAt, told_at}
 use Rattle.session_model.specs.Told.{SessionTold, one_frame_more}

@@ -5,7 +5,7 @@ use Rattle.round_model.specs.Refiners.{Refining, cut_patches}
 use Rattle.mesh_model.specs.Meshes.{MeshLists}
 use Rattle.script_model.specs.declared.orders.Order.TheVariants as orders
 use Rattle.session_model.specs.Sessions.{SessionState, printed_once}
-use Rattle.session_model.specs.StateLaws.{printed_locks}
+use Rattle.session_laws.specs.StateLaws.{printed_locks}
 use Rattle.session_model.specs.DoneRounds.{HasDone}
 use Rattle.token_words.specs.Sessions.{IsSession}
 use Rattle.token_words.specs.declared.entries.Entry.{Entry}

@@ -10,16 +10,16 @@ use Rattle.token_words.specs.declared.entries.Entry.{Entry}
 use Rattle.tier_model.specs.Tiers.{TierState}
 use Rattle.tier_model.specs.Ranks.{Posted, wish_of}
 use Rattle.tier_model.specs.Turns.{Board}
-use Rattle.tier_model.specs.TieLaws.{tied-again}
-use Rattle.tier_model.specs.TurnLaws.{KeepsWishes}
-use Rattle.tier_model.specs.ChainLaws.{IsTopTied}
+use Rattle.tier_laws.specs.TieLaws.{tied-again}
+use Rattle.tier_model.specs.Keeping.{KeepsWishes}
+use Rattle.tier_laws.specs.ChainLaws.{IsTopTied}
 use Rattle.transfer_step.specs.TurnWords.{board_of as board_for}
 use Rattle.wish_board.specs.Boards.{BoardSeen, board_wish}
 use Rattle.cache_chain.specs.Turning.{chain_of, AllKeepWishes}
 use Rattle.run_model.specs.Worlds.{World, is_base, IsWorld}
 use Rattle.run_model.specs.States.{State, board_of}
 use Rattle.run_model.specs.Safe.{IsSafe}
-use Rattle.run_model.specs.Sound.{IsSound, safe_sound}
+use Rattle.run_laws.specs.Sound.{IsSound, safe_sound}
 use Rattle.run_model.specs.Kept.{TakeWishes}
 use Rattle.session_seats.specs.Boards.{IsBoardFor}
 use Rattle.session_seats.specs.Seats.{SeatsSeen, AreSeated, state_of}

@@ -17,8 +17,8 @@ use Rattle.tier_model.specs.Tiers.{TierState, load, IsTier, IsBodyFor, sizes_of,
 use Rattle.tier_model.specs.Ranks.{Posted}
 use Rattle.tier_model.specs.Changes.{fresh}
 use Rattle.tier_model.specs.Chains.{bodies_at, opened_top, opened_tiers, opened}
-use Rattle.tier_model.specs.BodyLaws.{marks_of}
-use Rattle.tier_model.specs.OpeningLaws.{load_of_held}
+use Rattle.tier_laws.specs.BodyLaws.{marks_of}
+use Rattle.tier_laws.specs.OpeningLaws.{load_of_held}
 use Rattle.wish_board.specs.Boards.{BoardSeen, empty_board}
 use Rattle.wish_board.specs.BoardLaws.{fits_empty}
 use Rattle.accepted_mesh.specs.MeshView.{MeshSeen}
@@ -29,8 +29,8 @@ use Rattle.run_model.specs.Worlds.{World, IsWorld, HoldsBase, AreBaseBodies}
 use Rattle.run_model.specs.States.{State, opening}
 use Rattle.run_model.specs.Safe.{IsSafe}
 use Rattle.run_model.specs.Kept.{TakeWishes}
-use Rattle.run_model.specs.KeptLaws.{opening_kept}
-use Rattle.run_model.specs.OpeningLaws.{base_is_marked, opened_count, opening_safe}
+use Rattle.run_laws.specs.KeptLaws.{opening_kept}
+use Rattle.run_laws.specs.OpeningLaws.{base_is_marked, opened_count, opening_safe}
 use Rattle.run_model.specs.RunTexts.{IsOpening}
 use Rattle.session_seats.specs.Boards.{IsBoardFor}
 use Rattle.session_seats.specs.Seats.{SeatsSeen, at_seat, empty_seats, state_of}

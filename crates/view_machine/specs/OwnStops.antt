@@ -10,7 +10,7 @@ use Rattle.run_model.specs.States.{State}
 use Rattle.run_model.specs.Events.{Reaches}
 use Rattle.run_model.specs.Events.{Stays as NoEvent}
 use Rattle.run_model.specs.Lines.{Did, Does}
-use Rattle.run_model.specs.LineLaws.{does_reaches}
+use Rattle.run_laws.specs.LineLaws.{does_reaches}
 use Rattle.view_machine.specs.SettleStates.{MakesAll, makes_reach}
 use Rattle.view_machine.specs.Stops.{began, StopsAt, AtEvents, AtTurn}
 

@@ -11,7 +11,7 @@ use Rattle.wish_board.specs.Boards.{BoardSeen}
 use Rattle.run_model.specs.Worlds.{World}
 use Rattle.run_model.specs.States.{State}
 use Rattle.run_model.specs.Lines.{Did, Does}
-use Rattle.run_model.specs.LineLaws.{does_reaches}
+use Rattle.run_laws.specs.LineLaws.{does_reaches}
 use Rattle.session_seats.specs.Boards.{IsBoardFor}
 use Rattle.session_seats.specs.Orders.{DoesOrder, DoesPosting, ReachesSeats}
 use Rattle.session_seats.specs.SeatChanges.{KeepsWords}

@@ -14,7 +14,7 @@ use Rattle.run_model.specs.States.{State, board_of}
 use Rattle.run_model.specs.Turning.{TurnsTo}
 use Rattle.run_model.specs.Events.{Turns, Reaches, Stays, Then}
 use Rattle.run_model.specs.Safe.{IsSafe}
-use Rattle.run_model.specs.SafeLaws.{events_keep_safe}
+use Rattle.run_laws.specs.SafeLaws.{events_keep_safe}
 use Rattle.run_model.specs.Lines.{IdlesTo, LastTurn, MoreTurns, SettlesTo, AllSettled, TierSettles}
 use Rattle.view_machine.specs.TurnStates.{state_at, IsSettingOf, turn_tells}
 

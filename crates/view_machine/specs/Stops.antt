@@ -6,20 +6,21 @@ use Rattle.std.proofs.lemmas.List.{length-set}
 use Rattle.tier_model.specs.Places.{is_marked}
 use Rattle.tier_model.specs.Tiers.{TierState}
 use Rattle.tier_model.specs.Turns.{begun}
-use Rattle.tier_model.specs.BodyLaws.{get-set_same, get-set_other}
-use Rattle.tier_model.specs.TierLaws.{IsTier-begun}
-use Rattle.tier_model.specs.TieLaws.{tied-begun}
-use Rattle.tier_model.specs.TurnLaws.{begun_places, begun_version, begun_wishes, KeepsWishes}
+use Rattle.tier_laws.specs.BodyLaws.{get-set_same, get-set_other}
+use Rattle.tier_laws.specs.TierLaws.{IsTier-begun}
+use Rattle.tier_laws.specs.TieLaws.{tied-begun}
+use Rattle.tier_laws.specs.TurnLaws.{begun_places, begun_version, begun_wishes}
+use Rattle.tier_model.specs.Keeping.{KeepsWishes}
 use Rattle.tier_model.specs.Ties.{IsTied}
 use Rattle.run_model.specs.Worlds.{World, is_base, IsWorld}
 use Rattle.run_model.specs.States.{State, board_of}
 use Rattle.run_model.specs.Events.{Reaches}
 use Rattle.run_model.specs.Safe.{IsSafe}
-use Rattle.run_model.specs.SafeLaws.{events_keep_safe}
+use Rattle.run_laws.specs.SafeLaws.{events_keep_safe}
 use Rattle.run_model.specs.Kept.{TakeWishes}
-use Rattle.run_model.specs.KeptLaws.{events_take}
-use Rattle.run_model.specs.Sound.{IsTierOf, IsSound, sound_safe, safe_sound}
-use Rattle.run_model.specs.BodyLaws.{bodies-begun}
+use Rattle.run_laws.specs.KeptLaws.{events_take}
+use Rattle.run_laws.specs.Sound.{IsTierOf, IsSound, sound_safe, safe_sound}
+use Rattle.run_laws.specs.BodyLaws.{bodies-begun}
 
 -- tier k has begun its turn: where the posted views have changed, it has taken their wishes
 unfoldable pub began : World → State → ℕ → TierState → State

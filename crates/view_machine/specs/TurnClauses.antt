@@ -32,7 +32,7 @@ use Rattle.run_model.specs.Turning.{TurnsTo}
 use Rattle.run_model.specs.Events.{Reaches}
 use Rattle.script_model.specs.declared.orders.Order.TheVariants as orders
 use Rattle.run_model.specs.Lines.{DidTurns, SettlesTo, DoesSettle}
-use Rattle.run_model.specs.LineLaws.{does_reaches}
+use Rattle.run_laws.specs.LineLaws.{does_reaches}
 use Rattle.session_seats.specs.Seats.{SeatsSeen, at_seat, state_of}
 use Rattle.view_machine.specs.CountLaws.{one_counts, turns_count}
 use Rattle.view_machine.specs.LineCounts.{CountsTurns}

@@ -24,7 +24,7 @@ use Rattle.cache_chain.specs.TurnRuns.{Setting, Moment, chain_at, MakesTurn}
 use Rattle.run_model.specs.Worlds.{World}
 use Rattle.run_model.specs.States.{State, board_of, moved}
 use Rattle.run_model.specs.Turning.{GivesStored, GivesBelow, TurnsTo}
-use Rattle.run_model.specs.AnswerLaws.{IsAnswer, turns_to}
+use Rattle.run_laws.specs.AnswerLaws.{IsAnswer, turns_to}
 use Rattle.view_machine.specs.ToldBodies.{told_bodies, world_body}
 
 -- the state of a run at a moment of its chain, beside these sessions and posted views

@@ -17,8 +17,8 @@ use Rattle.round_model.specs.Rounds.{has, frame_size, is_wanted, root_set, round
 use Rattle.round_model.specs.Views.{ViewSeen, rules_of, view_rules}
 use Rattle.round_laws.specs.Parents.{FallsAlong, falls_from_eye}
 use Rattle.round_laws.specs.Cuts.{IsRootOrWanted, round_is_cut, round_members}
-use Rattle.detail_laws.specs.Wanted.{with_members, FitsWanted, AreGranted}
-use Rattle.detail_laws.specs.FullRounds.{full_round}
+use Rattle.round_laws.specs.Wanted.{with_members, FitsWanted, AreGranted}
+use Rattle.round_laws.specs.FullRounds.{full_round}
 use Rattle.view_planes.specs.Planes.{PlanesSeen, is_culled_node, culled_score, planes_rules}
 use Rattle.view_planes.specs.Culling.{culled_at, culled_falls}
 

@@ -12,8 +12,8 @@ use Rattle.mesh_model.specs.Accepted.{nested_by, has_ball_within}
 use Rattle.mesh_model.specs.Meshes.{MeshLists, IsMesh}
 use Rattle.round_model.specs.Scores.{score_of}
 use Rattle.round_model.specs.Views.{rules_of}
-use Rattle.frame_laws.specs.Each.{each_at}
-use Rattle.frame_laws.specs.Ends.{HasEnds, each_has_ends}
+use Rattle.mesh_laws.specs.Each.{each_at}
+use Rattle.mesh_laws.specs.Ends.{HasEnds, each_has_ends}
 use Rattle.round_laws.specs.Parents.{FallsAlong, falls_from_eye}
 use Rattle.view_planes.specs.HalfSpaces.{HalfSpaceSeen, is_behind}
 use Rattle.view_planes.specs.Behind.{behind_within}

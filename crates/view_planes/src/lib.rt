@@ -13,7 +13,7 @@ ghost use Rattle.mesh_model.specs.Accepted.{IsAccepted, triangles_out_of};
 ghost use Rattle.mesh_model.specs.Meshes.{MeshLists, IsMesh};
 ghost use Rattle.round_model.specs.Rounds.{has, round_of};
 ghost use Rattle.round_model.specs.Views.{view_rules};
-ghost use Rattle.frame_laws.specs.Frames.{frame_of_set};
+ghost use Rattle.mesh_laws.specs.Frames.{frame_of_set};
 ghost use Rattle.view_planes.specs.HalfSpaces.{HalfSpaceSeen, is_behind};
 ghost use Rattle.view_planes.specs.Planes.{PlanesSeen, is_culled, is_culled_node, planes_rules};
 ghost use Rattle.view_planes.specs.CulledCuts.{IsGranted};
@@ -21,7 +21,7 @@ ghost use Rattle.view_planes.specs.CulledCuts.{IsGranted};
 mod half_spaces;
 mod planes;
 
-pub use half_spaces::{LEVEL_REACH, HalfSpace, NORMAL_REACH, Side};
+pub use half_spaces::{HalfSpace, LEVEL_REACH, NORMAL_REACH, Side};
 pub use planes::Planes;
 
 #[cfg(test)]

@@ -8,8 +8,9 @@ ghost use Rattle.view_planes.specs.Culling.{as_many_culled, culled_falls};
 use crate::half_spaces::HalfSpace;
 use accepted_mesh::Mesh;
 use arrayvec::ArrayVec;
-use error_metric::{View, Want};
+use error_metric::Want;
 use grid_vertex::Ball;
+use round_model::View;
 use std::marker::Model;
 
 /// A view with up to six half-spaces. It wants what the view wants, but no node whose ball is behind one.

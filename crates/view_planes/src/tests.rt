@@ -1,8 +1,8 @@
 //! The ranges of a half-space, balls that touch its plane, and a seventh half-space.
 
 use crate::{HalfSpace, Planes, Side};
-use error_metric::View;
 use grid_vertex::{Ball, Point};
+use round_model::View;
 use std::test::Fail;
 
 #[test]

@@ -6,10 +6,9 @@ ghost use Rattle.file_model.specs.Rules.{is_between};
 ghost use Rattle.script_model.specs.Orders.{count_at, coordinate_at, positive_at, eye_in, view_in};
 
 use crate::words::word_at;
-use error_metric::View;
 use grid_vertex::Point;
 use number_words::{read_number, read_signed};
-use round_model::{EYE_REACH, GREATEST_FOCAL, GREATEST_THRESHOLD};
+use round_model::{EYE_REACH, GREATEST_FOCAL, GREATEST_THRESHOLD, View};
 
 /// The count that the word of this number spells. Err is that number.
 pub fn count_at(number: u32, words: &[&[u8]]) -> Result<u32, u32>

@@ -14,14 +14,14 @@ use Rattle.tier_model.specs.declared.turns.Turn.TheVariants.{Reserve, Evict, Kep
 use Rattle.tier_model.specs.Tiers.{TierState, is_held}
 use Rattle.tier_model.specs.Choices.{Told}
 use Rattle.tier_model.specs.Turns.{Fetched, Came, Failed, Broken, Outcome, paired, begun, turn_of}
-use Rattle.tier_model.specs.Follows.{Follows, Reserves, Gets, Loses, Fails, Breaks, Commits, Evicts, Keeps, Rests, follows}
+use Rattle.tier_laws.specs.Follows.{Follows, Reserves, Gets, Loses, Fails, Breaks, Commits, Evicts, Keeps, Rests, follows}
 use Rattle.tier_model.specs.Chains.{has_below, told_at}
 use Rattle.tier_model.specs.Counts.{is_fault, faults_in}
 use Rattle.run_model.specs.Worlds.{World}
 use Rattle.run_model.specs.States.{State, board_of, seated, posting, moved}
 use Rattle.run_model.specs.Turning.{TurnsTo, IfFetched, GivesBelow, GivesHeld, GivesStored, found_by, turn_at}
 use Rattle.run_model.specs.Lines.{Did, DidTurns, Does, DoesOpen, DoesView, DoesStep, DoesFrame, DoesFree, DoesClose, DoesTurn, DoesSettle, DoesStatus, Runs, NoLine, OneLine, IdlesTo, LastTurn, MoreTurns, SettlesTo, AllSettled, TierSettles}
-use Rattle.run_model.specs.OneSettling.{does_many}
+use Rattle.run_laws.specs.OneSettling.{does_many}
 use Rattle.run_model.specs.RunTexts.{is_lowest, lowest_turns, turns_in, faults_of}
 use Rattle.view_machine.specs.LineCounts.{IsNoFailure, HasNoFailure, IsNoChange, HasNoChange}
 use Rattle.view_machine.specs.RunEnds.{HaveNoFailure, HaveNoChange}

@@ -12,7 +12,7 @@ use Rattle.tier_model.specs.Tiers.{TierState}
 use Rattle.tier_model.specs.Chains.{opened}
 use Rattle.run_model.specs.Worlds.{World}
 use Rattle.run_model.specs.States.{State, opening}
-use Rattle.run_model.specs.OpeningLaws.{opened_count}
+use Rattle.run_laws.specs.OpeningLaws.{opened_count}
 use Rattle.run_model.specs.Lines.{Did, Runs}
 use Rattle.run_model.specs.LineTexts.{AreTextsOf}
 use Rattle.run_model.specs.RunTexts.{IsOpening, orders_of, store_outcomes}

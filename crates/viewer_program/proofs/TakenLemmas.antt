@@ -17,7 +17,7 @@ use Rattle.mesh_model.specs.Accepted.{IsNestedGraph, IsAccepted}
 use Rattle.accepted_mesh.specs.MeshView.{MeshSeen}
 use Rattle.dag_check.specs.Checks.{Checks}
 use Rattle.cache_chain.specs.Refusals.{base_size}
-use Rattle.frame_laws.specs.Bases.{base_is_cut}
+use Rattle.mesh_laws.specs.Bases.{base_is_cut}
 use Rattle.view_outside.specs.Taken.{RisesBelow, RisesAtMost, taken_after, taken_after-zero, taken_after-taken_after}
 use Rattle.body_loads.specs.Loads.{size_at, sizes_sum}
 use Rattle.patch_file.specs.Taking.{announced_size, index_size}

@@ -9,7 +9,7 @@ use Rattle.script_model.specs.Scripts.{script_in, AreLines}
 use Rattle.view_outside.specs.Faults.{Rose, RoseBy}
 use Rattle.view_outside.specs.Taken.{taken_after}
 use Rattle.run_model.specs.Worlds.{World, IsWorld}
-pub use Rattle.run_model.specs.ToldWorlds.{IsWorldOver}
+pub use Rattle.run_laws.specs.ToldWorlds.{IsWorldOver}
 use Rattle.run_model.specs.Lines.{Did}
 use Rattle.run_model.specs.RunTexts.{StoreOutcome, IsRunText, turns_in, faults_of, bytes_from_store}
 use Rattle.view_machine.specs.RunEnds.{HaveNoChange}

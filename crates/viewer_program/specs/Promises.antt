@@ -10,9 +10,9 @@ use Rattle.run_model.specs.Worlds.{World, IsWorld}
 use Rattle.run_model.specs.States.{State}
 use Rattle.run_model.specs.Events.{Reaches}
 use Rattle.run_model.specs.Safe.{IsSafe, IsHeldAtTop}
-use Rattle.run_model.specs.SafeLaws.{events_keep_safe}
+use Rattle.run_laws.specs.SafeLaws.{events_keep_safe}
 use Rattle.run_model.specs.Lines.{Did, Runs}
-use Rattle.run_model.specs.PrintedFrames.{IsTold, told_file, PrintsAlong, prints_along}
+use Rattle.run_laws.specs.PrintedFrames.{IsTold, told_file, PrintsAlong, prints_along}
 
 -- whatever events lead to from the opening on, each patch that a session has locked is held in the top tier with its
 -- file's body, and what a tier holds and what comes to it is within its budget. And where the bodies are told, each frame

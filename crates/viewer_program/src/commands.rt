@@ -1,7 +1,7 @@
 //! The commands that the program's words name.
 
-use error_metric::View;
 use ray_pick::Ray;
+use round_model::View;
 use view_planes::{HalfSpace, Planes};
 
 /// What the words ask for.

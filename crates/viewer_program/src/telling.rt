@@ -7,10 +7,9 @@ ghost use Rattle.viewer_program.specs.Outside.{sink_seen};
 ghost use Rattle.viewer_program.specs.Telling.{Gets, IsTold};
 
 use crate::statuses::{plain_line, status_code, status_text};
-use view_outside::write_all;
 use std::alloc::Global;
 use text_model::Status;
-use view_outside::Sink;
+use view_outside::{Sink, write_all};
 
 // Writes the text as far as the sink takes it.
 fn write_as_far<O: Sink>(text: &[u8], sink: &mut O)

@@ -9,10 +9,10 @@ use Rattle.token_words.specs.Sessions.{IsSession}
 use Rattle.file_model.specs.declared.fields.PatchField.{PatchField}
 use Rattle.mesh_model.specs.Meshes.{MeshLists}
 use Rattle.file_model.specs.Rules.{IsIndex}
-use Rattle.frame_laws.specs.Ends.{HasEnds, each_has_ends}
-use Rattle.frame_laws.specs.Each.{each_at}
+use Rattle.mesh_laws.specs.Ends.{HasEnds, each_has_ends}
+use Rattle.mesh_laws.specs.Each.{each_at}
 use Rattle.tier_model.specs.Ranks.{Posted, node_wish, wish_of}
-use Rattle.tier_model.specs.BodyLaws.{each-set, none_there}
+use Rattle.tier_laws.specs.BodyLaws.{each-set, none_there}
 use Rattle.token_words.specs.declared.session_sets.TheConstants.{SESSIONS}
 use Rattle.wish_board.specs.Maxima.{AreScored, AreGreatest}
 use Rattle.wish_board.specs.Boards.{BoardSeen, without_view, board_wish, next_version, with_view, empty_board, no_posted}

@@ -1,7 +1,7 @@
 -- What callers see of a board, and what holds of its parts.
 use Rattle.std.specs.Prelude.{◌≡◌, ℕ, List, length}
 use Rattle.std.specs.List.{AllByRecursion}
-use Rattle.frame_laws.specs.Ends.{HasEnds}
+use Rattle.mesh_laws.specs.Ends.{HasEnds}
 use Rattle.wish_board.specs.declared.boards.WishBoard.TheInside.{Inside}
 use Rattle.token_words.specs.declared.session_sets.TheConstants.{SESSIONS}
 use Rattle.wish_board.specs.Maxima.{AreScored, AreGreatest}

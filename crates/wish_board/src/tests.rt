@@ -4,10 +4,10 @@ ghost use Rattle.wish_board.specs.Boards.{Fits};
 
 use super::*;
 use accepted_mesh::Mesh;
-use error_metric::View;
 use grid_vertex::{NoMemory, Point};
 use mesh_graph::MeshGraph;
 use patch_file::read_index;
+use round_model::View;
 use sample_files::strip;
 use std::alloc::Global;
 use std::process::Abort;

@@ -3,7 +3,7 @@
 ghost use Rattle.std.specs.Prelude.{◌≡◌, ◌≤◌, true, length, IfOk, OnErr};
 ghost use Rattle.view_outside.specs.Files.{file_bytes};
 ghost use Rattle.token_words.specs.Changes.{Stays, SetsStay};
-ghost use Rattle.tier_model.specs.ChainLaws.{IsTopTied};
+ghost use Rattle.tier_laws.specs.ChainLaws.{IsTopTied};
 ghost use Rattle.transfer_step.specs.TurnWords.{board_of};
 ghost use Rattle.cache_chain.specs.ChainStates.{IsChain};
 ghost use Rattle.cache_chain.specs.Turning.{chain_of, AllKeepWishes};

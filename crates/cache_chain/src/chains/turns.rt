@@ -10,7 +10,7 @@ ghost use Rattle.tier_model.specs.Tiers.{TierState, body_at};
 ghost use Rattle.tier_model.specs.Answers.{IfGot, IfLost, IfFault, IfChanged, IfEvict, IfKept};
 ghost use Rattle.tier_model.specs.Chains.{has_below};
 ghost use Rattle.tier_model.specs.Settling.{TurnsAt};
-ghost use Rattle.tier_model.specs.ChainLaws.{IsTopTied};
+ghost use Rattle.tier_laws.specs.ChainLaws.{IsTopTied};
 ghost use Rattle.transfer_step.specs.TurnWords.{board_of, next_size, TurnTakes, misses_in};
 ghost use Rattle.cache_chain.specs.ChainStates.{IsFileBody, FindsChanged, IsChain};
 ghost use Rattle.cache_chain.specs.Turning.{chain_of, AllKeepWishes, AtLowest, GivesBelow, TakesWishes};

@@ -2,7 +2,7 @@
 
 use super::scenes::{Content, Deed, Play, Scene, expect_play, view};
 use cache_chain::{Turn, TurnLine};
-use error_metric::View;
+use round_model::View;
 use sample_files::{square, strip};
 use std::test::Fail;
 

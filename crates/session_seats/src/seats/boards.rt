@@ -15,8 +15,8 @@ ghost use Rattle.session_seats.specs.Boards.{IsBoardFor, posted_on};
 ghost use Rattle.session_seats.specs.Orders.{DoesPosting};
 
 use crate::seats::Seats;
-use error_metric::View;
 use grid_vertex::NoMemory;
+use round_model::View;
 use token_words::PlainTokens;
 use wish_board::WishBoard;
 

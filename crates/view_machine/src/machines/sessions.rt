@@ -12,8 +12,8 @@ ghost use Rattle.view_machine.specs.OwnStops.{StopsIn};
 ghost use Rattle.view_machine.specs.LineTells.{DoesLine};
 
 use crate::machines::Machine;
-use error_metric::View;
 use grid_vertex::NoMemory;
+use round_model::View;
 use run_texts::{add_closed, add_freed, add_open, add_step, add_view};
 use session_seats::Stepped;
 use std::alloc::Global;

@@ -2,8 +2,8 @@
 
 use super::read;
 use crate::{Line, Mode, Order};
-use error_metric::View;
 use grid_vertex::Point;
+use round_model::View;
 use std::test::Fail;
 
 #[test]

@@ -5,9 +5,8 @@ ghost use Rattle.viewer_program.specs.Commands.{command_in, command_named, comma
 
 use super::Command;
 use super::spelt::{read_half_space, read_planes, read_point, read_ray, read_version, read_view};
-use error_metric::View;
 use ray_pick::Ray;
-use round_model::EYE_REACH;
+use round_model::{EYE_REACH, View};
 
 /// The command that the words name; none where they are no command. They don't include the
 /// program's name.

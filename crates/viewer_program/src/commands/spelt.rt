@@ -4,11 +4,10 @@ ghost use Rattle.std.specs.Prelude.{◌≡◌, ◌<◌, ◌^◌, map, string_byt
 ghost use Rattle.file_model.specs.Rules.{is_version};
 ghost use Rattle.viewer_program.specs.Spelt.{version_in, point_in, view_in, half_space_in, with_half_spaces, planes_in, ray_from, ray_in};
 
-use error_metric::View;
 use grid_vertex::Point;
 use number_words::{read_number, read_signed, read_wide_signed};
 use ray_pick::{DIRECTION_REACH, ORIGIN_REACH, Ray};
-use round_model::{GREATEST_FOCAL, GREATEST_THRESHOLD};
+use round_model::{GREATEST_FOCAL, GREATEST_THRESHOLD, View};
 use view_planes::{HalfSpace, LEVEL_REACH, NORMAL_REACH, Planes};
 
 /// The version that a word spells.
@@ -96,7 +95,12 @@ pub fn read_ray(words: &[String]) -> Option<Ray>
     match words {
         [x, y, z, to_x, to_y, to_z] => {
             let origin = read_point(ORIGIN_REACH, x.as_str(), y.as_str(), z.as_str());
-            let direction = read_point(DIRECTION_REACH, to_x.as_str(), to_y.as_str(), to_z.as_str());
+            let direction = read_point(
+                DIRECTION_REACH,
+                to_x.as_str(),
+                to_y.as_str(),
+                to_z.as_str(),
+            );
             ray_from(origin, direction)
         }
         _ => None,

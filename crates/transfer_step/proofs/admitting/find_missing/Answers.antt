@@ -1,5 +1,5 @@
 -- A choice by the answers of such a test is the candidate.
-use Rattle.tier_model.specs.Chosen.{candidate-by_answers}
+use Rattle.tier_laws.specs.Chosen.{candidate-by_answers}
 use Rattle.transfer_step.proofs.admitting.find_missing.Goals as goal
 
 pub returns-clause-candidate : goal.returns-clause-candidate

@@ -1,6 +1,6 @@
 -- What the words and the tier ask, and the answer by the uses found.
 use Rattle.std.proofs.Common.{◌∙◌, arith}
-use Rattle.tier_model.specs.BodyLaws.{there_is_marked}
+use Rattle.tier_laws.specs.BodyLaws.{there_is_marked}
 use Rattle.transfer_step.specs.TurnWords.{misses_in}
 use Rattle.transfer_step.proofs.RuleSteps.{gone_answer, kept_answer}
 use Rattle.transfer_step.proofs.WordLaws.{gone_epochs, kept_epochs}

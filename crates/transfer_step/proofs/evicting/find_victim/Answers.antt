@@ -2,7 +2,7 @@
 use Rattle.std.proofs.Common.{ap, sym, ◌∙◌}
 use Rattle.std.specs.Option.{option_and_then}
 use Rattle.tier_model.specs.Choices.{victim}
-use Rattle.tier_model.specs.Chosen.{victim-is}
+use Rattle.tier_laws.specs.Chosen.{victim-is}
 use Rattle.transfer_step.proofs.evicting.find_victim.Goals as goal
 
 pub returns : goal.returns

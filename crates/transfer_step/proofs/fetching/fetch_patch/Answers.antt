@@ -5,8 +5,8 @@ use Rattle.tier_model.specs.declared.turns.Abort.TheVariants as reasons
 use Rattle.tier_model.specs.Places.{first_bare}
 use Rattle.tier_model.specs.Tiers.{IsBodyFor}
 use Rattle.tier_model.specs.Changes.{aborted}
-use Rattle.tier_model.specs.ComingLaws.{bare_comes}
-use Rattle.tier_model.specs.TierLaws.{comes_within}
+use Rattle.tier_laws.specs.ComingLaws.{bare_comes}
+use Rattle.tier_laws.specs.TierLaws.{comes_within}
 use Rattle.transfer_step.specs.Fetches.{is_lost}
 use Rattle.transfer_step.proofs.RuleSteps.{some_at, got_body, got_answer, lost_answer, fault_answer, changed_answer}
 use Rattle.transfer_step.proofs.fetching.fetch_patch.Goals as goal

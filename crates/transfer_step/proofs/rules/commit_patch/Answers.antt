@@ -1,7 +1,7 @@
 -- A patch that comes has an even epoch below the last.
 use Rattle.std.proofs.Common.{arith}
-use Rattle.tier_model.specs.ComingLaws.{first_comes}
-use Rattle.tier_model.specs.TierLaws.{comes_within}
+use Rattle.tier_laws.specs.ComingLaws.{first_comes}
+use Rattle.tier_laws.specs.TierLaws.{comes_within}
 use Rattle.transfer_step.proofs.WordLaws.{come_epochs, coming_is_even}
 use Rattle.transfer_step.proofs.rules.commit_patch.Goals as goal
 

@@ -7,7 +7,7 @@ use Rattle.tier_model.specs.Tiers.{TierState, count, size, load, places}
 use Rattle.tier_model.specs.Changes.{reserved, committed, calmed}
 use Rattle.tier_model.specs.Choices.{victim}
 use Rattle.tier_model.specs.Turns.{paired, fetching, fetched_in, evicting, uses_in}
-use Rattle.tier_model.specs.ComingLaws.{none_comes}
+use Rattle.tier_laws.specs.ComingLaws.{none_comes}
 use Rattle.transfer_step.specs.TurnWords.{told_of, misses_in}
 use Rattle.transfer_step.proofs.RuleSteps.{sought_within, entering_by, reserve_needs, reserve_room, reserve_turn, fetch_turn, commit_turn, leave_turn}
 use Rattle.transfer_step.proofs.FetchWords.{fetched_epochs, fetched_misses}

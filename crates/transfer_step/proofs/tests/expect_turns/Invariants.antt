@@ -1,7 +1,7 @@
 -- The tier, the supply and the wishes go on fitting each other.
 use Rattle.std.proofs.Common.{◌≡◌, ◌≤◌, slice_index}
 use Rattle.tier_model.specs.Tiers.{count}
-use Rattle.tier_model.specs.TurnLaws.{KeepsWishes}
+use Rattle.tier_model.specs.Keeping.{KeepsWishes}
 use Rattle.transfer_step.specs.TurnWords.{board_of}
 use Rattle.transfer_step.proofs.tests.expect_turns.Given as goal
 

@@ -2,7 +2,7 @@
 use Rattle.std.proofs.Common.{◌≡◌, ◌++◌, IfOk, subst}
 use Rattle.tier_model.specs.Tiers.{TierState}
 use Rattle.tier_model.specs.Counts.{entries_of}
-use Rattle.tier_model.specs.TurnLaws.{KeepsSetup}
+use Rattle.tier_model.specs.Keeping.{KeepsSetup}
 use Rattle.transfer_step.specs.TurnWords.{told_of}
 use Rattle.transfer_step.proofs.WholeTurns.{ranked_setup, ranked_journal, ranked_lost, ranked_tied}
 use Rattle.transfer_step.proofs.turns.ranked_turn.Goals as goal

@@ -2,7 +2,7 @@
 use Rattle.std.proofs.Common.{ap, sym, ◌∙◌}
 use Rattle.tier_model.specs.Tiers.{TierState}
 use Rattle.tier_model.specs.Changes.{renewed}
-use Rattle.tier_model.specs.TurnLaws.{begun_same}
+use Rattle.tier_laws.specs.TurnLaws.{begun_same}
 use Rattle.transfer_step.specs.TurnWords.{board_of}
 use Rattle.transfer_step.proofs.WholeTurns.{begun_anew}
 use Rattle.transfer_step.proofs.turns.take_wishes.Goals as goal

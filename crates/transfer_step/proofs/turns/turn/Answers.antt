@@ -5,7 +5,7 @@ use Rattle.tier_model.specs.Tiers.{TierState}
 use Rattle.tier_model.specs.Turns.{BringsBody}
 use Rattle.tier_model.specs.Counts.{entries_of}
 use Rattle.tier_model.specs.Ties.{IsTied}
-use Rattle.tier_model.specs.TieLaws.{tied-begun}
+use Rattle.tier_laws.specs.TieLaws.{tied-begun}
 use Rattle.transfer_step.specs.TurnWords.{told_of, board_of, next_size, TurnTakes}
 use Rattle.transfer_step.proofs.WholeTurns.{turn_is, turn_setup, turn_wishes, begun_sizes, begun_journal, begun_next_size}
 use Rattle.transfer_step.proofs.turns.turn.Goals as goal

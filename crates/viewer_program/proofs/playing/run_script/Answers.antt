@@ -5,7 +5,7 @@ use Rattle.file_model.specs.Lists.{BodyLists}
 use Rattle.mesh_model.specs.Accepted.{IsAccepted}
 use Rattle.view_outside.specs.Files.{file_bytes}
 use Rattle.cache_chain.specs.ChainStates.{states_of}
-use Rattle.run_model.specs.PrintedFrames.{told_file}
+use Rattle.run_laws.specs.PrintedFrames.{told_file}
 use Rattle.run_model.specs.Worlds.{World}
 use Rattle.view_machine.specs.LineCounts.{TellsBodies}
 use Rattle.view_machine.specs.Machines.{world_of, run_state}

@@ -8,4 +8,5 @@ score_of_node-requires-clause-centre c =
 
 pub returns : goal.returns
 returns c =
-    rw (← c.self.view_is, ← c.index.ensures.value, c.score_of_node.ensures) (score_at c.self.inside.eye c.self.inside.focal c.index.result.now.nodes c.args.node c.node.result c.node.ensures)
+    rw (← c.index.ensures.value, c.score_of_node.ensures, c.eye.ensures.value, c.focal.ensures)
+    (score_at c.args.self.now.eye c.args.self.now.focal c.index.result.now.nodes c.args.node c.node.result c.node.ensures)

@@ -1,5 +1,5 @@
 use Rattle.std.proofs.Common.{sym, ap, subst, ◌∙◌}
-use Rattle.session_model.specs.StateLaws.{ended_no_round}
+use Rattle.session_laws.specs.StateLaws.{ended_no_round}
 use Rattle.session_locks.specs.Sessions.{SessionSeen}
 use Rattle.session_locks.specs.Passes.{HasSameUses}
 use Rattle.session_locks.proofs.PartLaws.{viewed_parts, viewed_seen}

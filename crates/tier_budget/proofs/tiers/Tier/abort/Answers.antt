@@ -4,8 +4,8 @@ use Rattle.tier_model.specs.declared.turns.Coming.{Coming}
 use Rattle.tier_model.specs.Places.{is_marked, first_bare}
 use Rattle.tier_model.specs.Tiers.{TierState, count, size}
 use Rattle.tier_model.specs.Changes.{aborted}
-use Rattle.tier_model.specs.ComingLaws.{bare_comes}
-use Rattle.tier_model.specs.TierLaws.{comes_within}
+use Rattle.tier_laws.specs.ComingLaws.{bare_comes}
+use Rattle.tier_laws.specs.TierLaws.{comes_within}
 use Rattle.tier_budget.specs.Heads.{bodies_in}
 use Rattle.tier_budget.specs.Heaps.{missing_at}
 use Rattle.tier_budget.specs.TierView.{TierSeen, state_of, tier_view}

@@ -3,8 +3,8 @@ use Rattle.std.proofs.Common.{◌≡◌, ap, sym, ◌∙◌, refl, Some}
 use Rattle.std.specs.Vec.{with_items}
 use Rattle.file_model.specs.Lists.{SeenBody}
 use Rattle.tier_model.specs.Places.{with_body, first_bare}
-use Rattle.tier_model.specs.ComingLaws.{bare_comes}
-use Rattle.tier_model.specs.TierLaws.{comes_within}
+use Rattle.tier_laws.specs.ComingLaws.{bare_comes}
+use Rattle.tier_laws.specs.TierLaws.{comes_within}
 use Rattle.tier_model.specs.Changes.{arrived}
 use Rattle.tier_budget.specs.TierView.{TierSeen, state_of, tier_view}
 use Rattle.tier_budget.proofs.Equations.{arrived_is}

@@ -6,8 +6,8 @@ use Rattle.std.specs.Arc.{arc_value}
 use Rattle.tier_model.specs.declared.turns.Coming.{Coming}
 use Rattle.tier_model.specs.Places.{is_marked, first_coming}
 use Rattle.tier_model.specs.Tiers.{TierState, count}
-use Rattle.tier_model.specs.ComingLaws.{first_comes, all_are_full}
-use Rattle.tier_model.specs.TierLaws.{comes_within}
+use Rattle.tier_laws.specs.ComingLaws.{first_comes, all_are_full}
+use Rattle.tier_laws.specs.TierLaws.{comes_within}
 use Rattle.tier_model.specs.Changes.{committed}
 use Rattle.tier_budget.specs.Heads.{bodies_in}
 use Rattle.tier_budget.specs.Heaps.{leaving_at}

@@ -1,0 +1,11 @@
+pub mod Each
+pub mod Ends
+pub mod Roots
+pub mod Patches
+pub mod Boundary
+pub mod Bases
+pub mod OpenEdges
+pub mod Frames
+pub mod Pairs
+pub mod Leasts
+pub mod Verdicts

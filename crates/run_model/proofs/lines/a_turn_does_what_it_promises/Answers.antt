@@ -1,5 +1,0 @@
-use Rattle.run_model.specs.AnswerLaws.{turns_to}
-use Rattle.run_model.proofs.lines.a_turn_does_what_it_promises.Goals as goal
-
-pub returns : goal.returns
-returns c = turns_to

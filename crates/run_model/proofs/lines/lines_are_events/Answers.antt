@@ -1,8 +1,0 @@
-use Rattle.run_model.specs.LineLaws.{does_reaches, runs_reach}
-use Rattle.run_model.proofs.lines.lines_are_events.Goals as goal
-
-pub returns-clause-line : goal.returns-clause-line
-returns-clause-line c = does_reaches
-
-pub returns-clause-run : goal.returns-clause-run
-returns-clause-run c = runs_reach

@@ -1,5 +1,0 @@
-use Rattle.run_model.specs.SafeLaws.{events_keep_safe}
-use Rattle.run_model.proofs.states.reaching_keeps_a_state_safe.Goals as goal
-
-pub returns : goal.returns
-returns c = events_keep_safe

@@ -1,0 +1,15 @@
+pub mod Asks
+pub mod Tested
+pub mod Passed
+pub mod Resting
+pub mod Refinings
+pub mod StateLaws
+pub mod StepLaws
+pub mod FreeLaws
+pub mod NextStates
+pub mod DoneLaws
+pub mod FrameLocks
+pub mod FinishLaws
+pub mod ToldLaws
+pub mod WholeLaws
+pub mod GivenAnswers

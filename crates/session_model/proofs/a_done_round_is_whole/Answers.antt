@@ -1,5 +1,0 @@
-use Rattle.session_model.specs.WholeLaws.{done_is_whole}
-use Rattle.session_model.proofs.a_done_round_is_whole.Goals as goal
-
-pub returns : goal.returns
-returns c = done_is_whole

@@ -1,8 +1,0 @@
-use Rattle.session_model.specs.FrameLocks.{frame_is_base_or_locked, done_frame_is_locked}
-use Rattle.session_model.proofs.patches_of_a_frame_are_locked.Goals as goal
-
-pub returns-clause-round : goal.returns-clause-round
-returns-clause-round c = frame_is_base_or_locked
-
-pub returns-clause-session : goal.returns-clause-session
-returns-clause-session c = done_frame_is_locked

@@ -1,0 +1,14 @@
+pub mod ComingLaws
+pub mod LoadLaws
+pub mod BodyLaws
+pub mod TierLaws
+pub mod RankLaws
+pub mod TopmostLaws
+pub mod Chosen
+pub mod Follows
+pub mod TurnLaws
+pub mod TieLaws
+pub mod SingleLaws
+pub mod OpeningLaws
+pub mod ChainLaws
+pub mod TierLoads

@@ -1,8 +1,0 @@
-use Rattle.tier_model.specs.ChainLaws.{tiers_settled, tied_settled}
-use Rattle.tier_model.proofs.laws.settling_leaves_tiers.Goals as goal
-
-pub returns-clause-tiers : goal.returns-clause-tiers
-returns-clause-tiers c = tiers_settled
-
-pub returns-clause-tied : goal.returns-clause-tied
-returns-clause-tied c = tied_settled
