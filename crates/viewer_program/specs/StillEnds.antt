@@ -17,6 +17,7 @@ use Rattle.viewer_program.specs.PlayEnds.{PlayEnds, IsMissing}
 use Rattle.viewer_program.specs.Playing.{play_in}
 use Rattle.viewer_program.specs.Strips.{strip_command_in, IsStripOutput, IsForMemory}
 use Rattle.viewer_program.specs.Told.{named_bytes}
+use Rattle.viewer_program.specs.WideTold.{IsBehindLoads}
 
 -- a command over the file of the name
 pub record CommandEnds (command : Command) (name : List ℕ) (before after : OutsideSeen) (status : Status) : Type 0 where
@@ -33,6 +34,8 @@ pub record CommandEnds (command : Command) (name : List ℕ) (before after : Out
       OnlyIf statuses.ReadFault (HasName before.store.files name → Rose before.store.faults after.store.faults) status
   -- where it tells that, it always comes
   pub missing : LacksName before.store.files name → status ≡ statuses.ReadFault
+  -- a patch is told to be too wide only behind the reading of the file and then of all its bodies
+  pub wide : IsBehindLoads (named_bytes before.store.files name) before.store.taken after.store.taken status
 
 -- a command over a strip
 pub record StripEnds (command : StripCommand) (before after : OutsideSeen) (status : Status) : Type 0 where

@@ -16,6 +16,7 @@ returns-in-Some g c =
       quiet = c.run_command.ensures.quiet;
       read_fault = c.run_command.ensures.read_fault;
       missing = c.run_command.ensures.missing;
+      wide = c.run_command.ensures.wide;
     } in
     command_still (map string_bytes c.args.words.now) before after c.run_command.result c.in-Some.command (sym c.in-Some.ensures.value)
     (rw c.file_name.ensures at ends) c.run_command.ensures.command refl c.run_command.ensures.changed c.run_command.ensures.write_fault
