@@ -47,7 +47,7 @@ pub fn fetch_patch<B: Supply>(
     ensures later { B.faults below.old ≤ B.faults below.new }
     ensures supply { B.place below.new ≡ B.place below.old }
 {
-    let _budget = tier.budget();
+    let _ = tier.budget();
     match below.fetch(alloc, patch)? {
         Fetch::Body(body) => {
             tier.arrive(body);

@@ -46,7 +46,7 @@ fn commit_patch<K: Keeper>(tier: &mut Tier, keeper: &mut K, patch: u32)
     ensures keeper { (K.place keeper.new ≡ K.place keeper.old)
         × (K.patches keeper.new ≡ K.patches keeper.old) }
 {
-    let _budget = tier.budget();
+    let _ = tier.budget();
     keeper.admit(patch);
     tier.commit();
 }
@@ -109,7 +109,7 @@ pub fn do_rule<B: Supply, K: Keeper>(
     ensures keeper { (K.place keeper.new ≡ K.place keeper.old)
         × (K.patches keeper.new ≡ K.patches keeper.old) }
 {
-    let _budget = tier.budget();
+    let _ = tier.budget();
     let ahead = seek(index, tier, below, keeper);
     if let Some(patch) = fitting(index, tier, ahead) {
         tier.reserve(patch);

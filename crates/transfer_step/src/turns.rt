@@ -30,7 +30,7 @@ pub fn take_wishes<W: Wishes>(tier: &mut Tier, wishes: &W)
     ensures records { tier.new.records ≡ tier.old.records }
     ensures spare { tier.new.spare ≡ tier.old.spare }
 {
-    let _budget = tier.budget();
+    let _ = tier.budget();
     let version = wishes.version();
     if version != tier.version() {
         tier.rank(wishes);

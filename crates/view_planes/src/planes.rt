@@ -90,6 +90,6 @@ impl Want for Planes {
     }
 
     fn threshold(&self) -> u64 {
-        self.view.threshold()
+        u64::from(self.view.threshold())
     }
 }

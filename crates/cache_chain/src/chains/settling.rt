@@ -95,7 +95,7 @@ impl<'a, S: Store> TierChain<'a, S> {
         ensures file { self.new.file ≡ self.old.file }
         ensures lender { self.new.lender ≡ self.old.lender }
     {
-        let _tiers = self.tier_count();
+        let _ = self.tier_count();
         self.settle_all(alloc, wishes, keeper, log)
     }
 

@@ -131,7 +131,7 @@ impl<'a, S: Store> TierChain<'a, S> {
         ensures file { self.new.file ≡ self.old.file }
         ensures lender { self.new.lender ≡ self.old.lender }
     {
-        let _tiers = self.tier_count();
+        let _ = self.tier_count();
         self.make_turn(alloc, tier, wishes, keeper)
     }
 
