@@ -39,7 +39,7 @@ use Rattle.run_model.specs.Safe.{IsSafe}
 use Rattle.run_laws.specs.Sound.{sound_safe, safe_sound}
 use Rattle.run_laws.specs.RunLaws.{runs_are_safe}
 use Rattle.run_model.specs.Kept.{seat_view, IsKept}
-use Rattle.run_model.specs.Lines.{Did, DidFrame, DidTurns, frame_of, SettlesTo, Does, DoesFrame, DoesSettle, Runs}
+use Rattle.run_model.specs.Lines.{Did, DidFrame, DidTurns, frame_of, frame_with, SettlesTo, Does, DoesFrame, DoesSettle, Runs}
 use Rattle.run_model.specs.RunTexts.{turn_outcomes, IsOpening}
 use Rattle.run_laws.specs.PrintedFrames.{IsTold, frame_shows}
 use Rattle.bench_laws.specs.Settlings.{SettlesBy, PrintsBy, NeverFails, in_use, was_passed, passed_or_used, KeepsBases, IsReadyToSettle, IsReadyToShow, ShowsWanted}
@@ -201,7 +201,7 @@ module _ (w : World) (world : IsWorld w) (a : State) (safe : IsSafe w a) (kept :
       after = settled b log settles never
 
       frame_wanted : (t : SessionState) (tries : List (ℕ × ℕ)) (done : HasDone t) → Finishes w.mesh true b.chain.epochs show.session tries t → ShowsWanted w bodies view (frame_of b.chain.tiers i t done.round)
-      unfolding frame_of
+      unfolding frame_of frame_with
       frame_wanted t tries done finishes =
           let at = ap (λ (sessions : ℕ → Option SessionState). sessions i) after.sessions ∙ show.at in
           let shows = frame_shows w bodies is_told b world (sound_safe w b world after.sound) i show.session t view tries at show.viewed finishes done in

@@ -33,7 +33,7 @@ use Rattle.view_machine.specs.LineEnds.{frames_at}
 use Rattle.view_machine.specs.LineTells.{DoesLine}
 use Rattle.view_machine.specs.Machines.{MachineSeen, world_of, run_state, KeepsPlace}
 use Rattle.view_machine.specs.Openings.{world_for, OpensOver, world_opened}
-use Rattle.view_machine.specs.ToldBodies.{said_bodies}
+use Rattle.body_loads.specs.ToldBodies.{said_bodies}
 use Rattle.bench_laws.specs.BenchOpening.{open_line, view_line}
 use Rattle.bench_laws.specs.BenchRuns.{bench_file, bench_budget, bench_view, IsBenchWorld}
 use Rattle.bench_run.specs.BaseBytes.{outgoing_within}

@@ -13,7 +13,7 @@ use Rattle.file_model.specs.Rules.{is_between, has_ends, has_counts, is_field, f
 use Rattle.file_laws.specs.Files.{are_bodies-parts}
 use Rattle.body_loads.specs.Loads.{body_at}
 use Rattle.body_loads.specs.LoadLaws.{loads_body}
-use Rattle.view_machine.specs.ToldBodies.{lists_said, said_bodies}
+use Rattle.body_loads.specs.ToldBodies.{lists_said, said_bodies}
 
 -- what is read at each patch from `first` on is a body of the list
 abbrev AreAt : ℕ → (ℕ → Option (Result BodyLists FileFault)) → List BodyLists → Type 0

@@ -1,3 +1,4 @@
 pub mod Loads
 pub mod LoadLaws
 pub mod PatchLists
+pub mod ToldBodies

@@ -6,7 +6,7 @@ use Rattle.std.proofs.lemmas.Option.{slice_get_within, same_Some}
 use Rattle.file_model.specs.declared.fields.PatchField.{PatchField}
 use Rattle.file_model.specs.Lists.{BodyLists, IndexLists}
 use Rattle.edge_chain.specs.declared.differences.Difference.{Difference}
-use Rattle.mesh_model.specs.declared.sides.Side.{Side}
+use Rattle.mesh_model.specs.declared.sides.NodeSide.{NodeSide}
 use Rattle.dag_check.specs.declared.node_sums.NodeSums.{NodeSums}
 use Rattle.dag_check.specs.declared.borders.BorderDifference.{BorderDifference}
 use Rattle.dag_check.specs.Added.{file_with}
@@ -28,7 +28,7 @@ each_set P Q node_sums node after here others h v t at =
       | inr e ↦ others v t e.0 (h v t e.1)
     ]
 
-pub step_is : (side : Side) (index : IndexLists) (taken : Taken) (f : PatchField) (body : BodyLists) (before after : AllSumsSeen) → slice_get index.fields (taken_on side taken) ≡ Some f → length body.corners ≤ 65535 → TakesAt side (node_on side f) body before after → AreAllSums index taken before → AreAllSums index (one_more side taken) after
+pub step_is : (side : NodeSide) (index : IndexLists) (taken : Taken) (f : PatchField) (body : BodyLists) (before after : AllSumsSeen) → slice_get index.fields (taken_on side taken) ≡ Some f → length body.corners ≤ 65535 → TakesAt side (node_on side f) body before after → AreAllSums index taken before → AreAllSums index (one_more side taken) after
 step_is side index taken f body before after at small takes h = record {
   as_many = ap length takes.node_sums ∙ length-set before.node_sums (node_on side f) takes.empty_node_sums ∙ h.as_many;
   are_node_sums = subst (λ (ts : List NodeSums). (v : ℕ) (t : NodeSums) → slice_get ts v ≡ Some t → AreNodeSums index.fields (one_more side taken) v t) (sym takes.node_sums)
@@ -79,7 +79,7 @@ adds_node node_sums node before after there e = record {
 }
 
 -- the least border difference, as a body is taken on one side of a node
-border_taken : (side : Side) (index : IndexLists) (taken : Taken) (bodies : List BodyLists) (f : PatchField) (body : BodyLists) (node_sums : List NodeSums) (found : Option BorderDifference) (before after : NodeSums) (difference : Option Difference) → IsNext side index.fields taken bodies f body → AreNodeSums index.fields taken (node_on side f) before → NodeSumsFollow index.fields taken bodies (node_on side f) before → slice_get node_sums (node_on side f) ≡ Some before → Takes side body before after difference → HasBorderDifference (file_with index bodies) (IsCompared node_sums) found → HasBorderDifference (file_with index bodies) (IsCompared (set node_sums (node_on side f) after)) (lesser_border found (node_on side f) difference)
+border_taken : (side : NodeSide) (index : IndexLists) (taken : Taken) (bodies : List BodyLists) (f : PatchField) (body : BodyLists) (node_sums : List NodeSums) (found : Option BorderDifference) (before after : NodeSums) (difference : Option Difference) → IsNext side index.fields taken bodies f body → AreNodeSums index.fields taken (node_on side f) before → NodeSumsFollow index.fields taken bodies (node_on side f) before → slice_get node_sums (node_on side f) ≡ Some before → Takes side body before after difference → HasBorderDifference (file_with index bodies) (IsCompared node_sums) found → HasBorderDifference (file_with index bodies) (IsCompared (set node_sums (node_on side f) after)) (lesser_border found (node_on side f) difference)
 border_taken side index taken bodies f body node_sums found before after difference next is follows there (outer e same one) h =
     let still : after.left ≡ before.left = ap (λ (t : NodeSums). t.left) same in
     subst (λ (d : Option Difference). HasBorderDifference (file_with index bodies) (IsCompared (set node_sums (node_on side f) after)) (lesser_border found (node_on side f) d)) (sym one)
@@ -95,7 +95,7 @@ border_taken side index taken bodies f body node_sums found before after differe
     (compared_nets index (one_more side taken) bodies (node_on side f) grown difference done.none_left (grown_follows side index.fields taken bodies f body (node_on side f) before grown next here g follows) compares)
     h
 
-pub step_follows : (side : Side) (index : IndexLists) (taken : Taken) (bodies : List BodyLists) (f : PatchField) (body : BodyLists) (before after : AllSumsSeen) → IsNext side index.fields taken bodies f body → TakesAt side (node_on side f) body before after → AreAllSums index taken before → AllSumsFollow index taken bodies before → AllSumsFollow index (one_more side taken) bodies after
+pub step_follows : (side : NodeSide) (index : IndexLists) (taken : Taken) (bodies : List BodyLists) (f : PatchField) (body : BodyLists) (before after : AllSumsSeen) → IsNext side index.fields taken bodies f body → TakesAt side (node_on side f) body before after → AreAllSums index taken before → AllSumsFollow index taken bodies before → AllSumsFollow index (one_more side taken) bodies after
 step_follows side index taken bodies f body before after next takes is h =
     let node : ℕ = node_on side f in
     let old_is = is.are_node_sums node takes.old_sums takes.there in

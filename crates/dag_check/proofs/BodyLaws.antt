@@ -8,8 +8,8 @@ use Rattle.file_model.specs.Lists.{BodyLists, IndexLists}
 use Rattle.file_model.specs.Rules.{IsIndex}
 use Rattle.mesh_model.specs.Graph.{leads_from}
 use Rattle.edge_chain.specs.Chains.{Chain}
-use Rattle.mesh_model.specs.declared.sides.Side.{Side}
-use Rattle.mesh_model.specs.declared.sides.Side.TheVariants.{Incoming, Outgoing}
+use Rattle.mesh_model.specs.declared.sides.NodeSide.{NodeSide}
+use Rattle.mesh_model.specs.declared.sides.NodeSide.TheVariants.{Incoming, Outgoing}
 use Rattle.dag_check.specs.Added.{AddsToBase}
 use Rattle.mesh_model.specs.Sides.{node_on}
 use Rattle.dag_check.specs.NodeSums.{Taken, taken_on, taken_both, one_more, chain_on}
@@ -24,22 +24,22 @@ few_nodes : (index : IndexLists) → IsIndex index → length index.nodes ≤ 65
 few_nodes index rules = leb-true (length index.nodes) 65536 (and_parts (nat_le 2 (length index.nodes)) (nat_le (length index.nodes) 65536) rules.node_count).1
 
 -- the counts have room for a body
-pub summed_of : (index : IndexLists) (taken : Taken) (all_sums : AllSumsSeen) → IsIndex index → ((s : Side) → taken_on s taken ≤ 65536) → AreAllSums index taken all_sums → IsSummed all_sums
+pub summed_of : (index : IndexLists) (taken : Taken) (all_sums : AllSumsSeen) → IsIndex index → ((s : NodeSide) → taken_on s taken ≤ 65536) → AreAllSums index taken all_sums → IsSummed all_sums
 summed_of index taken all_sums rules low h = record {
   few_nodes = omega (arith, h.as_many, few_nodes index rules);
   sums = λ v t at s. sum_more (taken_on s taken) 65536 (chain_on s t) (low s) ((h.are_node_sums v t at).sums s);
   open_nodes = h.open_nodes;
 }
 
-pub ready_of : (side : Side) (index : IndexLists) (taken : Taken) (f : PatchField) (all_sums : AllSumsSeen) → slice_get index.fields (taken_on side taken) ≡ Some f → AreAllSums index taken all_sums → IsReady (node_on side f) all_sums.node_sums
+pub ready_of : (side : NodeSide) (index : IndexLists) (taken : Taken) (f : PatchField) (all_sums : AllSumsSeen) → slice_get index.fields (taken_on side taken) ≡ Some f → AreAllSums index taken all_sums → IsReady (node_on side f) all_sums.node_sums
 ready_of side index taken f all_sums at h t there =
     is_ready side index.fields taken (node_on side f) f t at (eq-eqb (node_on side f) (node_on side f) refl) (h.are_node_sums (node_on side f) t there)
 
-pub low_at_first : (checker : CheckerSeen) → IsChecker checker → (s : Side) → taken_on s (taken_both checker.next) ≤ 65536
+pub low_at_first : (checker : CheckerSeen) → IsChecker checker → (s : NodeSide) → taken_on s (taken_both checker.next) ≤ 65536
 low_at_first checker is Incoming = omega (arith, is.within, few_patches checker.index is.rules)
 low_at_first checker is Outgoing = omega (arith, is.within, few_patches checker.index is.rules)
 
-pub low_between : (checker : CheckerSeen) (f : PatchField) → IsChecker checker → slice_get checker.index.fields checker.next ≡ Some f → (s : Side) → taken_on s (one_more Incoming (taken_both checker.next)) ≤ 65536
+pub low_between : (checker : CheckerSeen) (f : PatchField) → IsChecker checker → slice_get checker.index.fields checker.next ≡ Some f → (s : NodeSide) → taken_on s (one_more Incoming (taken_both checker.next)) ≤ 65536
 low_between checker f is at Incoming = omega (arith, slice_get_within checker.index.fields checker.next f at, few_patches checker.index is.rules)
 low_between checker f is at Outgoing = omega (arith, is.within, few_patches checker.index is.rules)
 

@@ -12,8 +12,8 @@ use Rattle.mesh_model.specs.Graph.{patches_from, leads_to, leads_from}
 use Rattle.mesh_model.specs.Nets.{one_if}
 use Rattle.mesh_model.specs.Accepted.{is_inner}
 use Rattle.mesh_model.specs.Frames.{triangles_where}
-use Rattle.mesh_model.specs.declared.sides.Side.{Side}
-use Rattle.mesh_model.specs.declared.sides.Side.TheVariants.{Incoming, Outgoing}
+use Rattle.mesh_model.specs.declared.sides.NodeSide.{NodeSide}
+use Rattle.mesh_model.specs.declared.sides.NodeSide.TheVariants.{Incoming, Outgoing}
 use Rattle.mesh_model.specs.Sides.{is_on}
 use Rattle.dag_check.specs.NodeSums.{how_many, Taken, taken_on, taken_both, one_more, to_come}
 
@@ -81,7 +81,7 @@ all_taken (suc n) test (f ∷ fs) [] e = refl
 all_taken (suc n) test (f ∷ fs) (b ∷ bs) e = ap (λ (r : List Triangle). if test f then triangles_of b ++ r else r) (all_taken n test fs bs e)
 
 -- a body that is taken on a side is no longer to come
-pub to_come-step : (side : Side) (fields : List PatchField) (taken : Taken) (v : ℕ) (f : PatchField) → slice_get fields (taken_on side taken) ≡ Some f → to_come fields taken v ≡ one_if (is_on side v f) + to_come fields (one_more side taken) v
+pub to_come-step : (side : NodeSide) (fields : List PatchField) (taken : Taken) (v : ℕ) (f : PatchField) → slice_get fields (taken_on side taken) ≡ Some f → to_come fields taken v ≡ one_if (is_on side v f) + to_come fields (one_more side taken) v
 to_come-step Incoming fields taken v f at = omega (arith, how_many-drop (is_on Incoming v) fields taken.incoming f at)
 to_come-step Outgoing fields taken v f at = omega (arith, how_many-drop (is_on Outgoing v) fields taken.outgoing f at)
 

@@ -19,7 +19,7 @@ use Rattle.mesh_graph.specs.ListReads.{slice_get-there}
 use Rattle.edge_chain.specs.Chains.{IsNetOf}
 use Rattle.dag_check.specs.declared.node_sums.NodeSums.{NodeSums}
 use Rattle.dag_check.specs.declared.borders.BorderDifference.{BorderDifference}
-use Rattle.mesh_model.specs.declared.sides.Side.TheVariants.{Incoming, Outgoing}
+use Rattle.mesh_model.specs.declared.sides.NodeSide.TheVariants.{Incoming, Outgoing}
 use Rattle.dag_check.specs.Added.{first_triangles, file_with}
 use Rattle.dag_check.specs.Borders.{border_of, IsLeastBorder, HasBorderDifference}
 use Rattle.mesh_model.specs.Sides.{is_on}

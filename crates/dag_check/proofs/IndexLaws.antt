@@ -10,7 +10,7 @@ use Rattle.file_model.specs.Rules.{IsIndex, is_field, has_ends, has_counts}
 use Rattle.mesh_model.specs.Graph.{incoming, outgoing, leads_to, leads_from}
 use Rattle.mesh_graph.specs.NearGrid.{each_passes}
 use Rattle.mesh_graph.specs.Graphs.{GraphSeen, IsGraphOf, index_of}
-use Rattle.mesh_model.specs.declared.sides.Side.TheVariants.{Incoming, Outgoing}
+use Rattle.mesh_model.specs.declared.sides.NodeSide.TheVariants.{Incoming, Outgoing}
 use Rattle.mesh_model.specs.Sides.{is_on}
 use Rattle.dag_check.specs.NodeSums.{how_many}
 use Rattle.dag_check.proofs.CountLaws.{length-patches, how_many-le}

@@ -10,8 +10,8 @@ use Rattle.std.proofs.lemmas.Map.Entries.{length-keys_of}
 use Rattle.file_model.specs.Lists.{BodyLists, IndexLists}
 use Rattle.edge_chain.specs.Chains.{Chain, IsNetOf}
 use Rattle.edge_chain.specs.NetLaws.{open_from_net}
-use Rattle.mesh_model.specs.declared.sides.Side.{Side}
-use Rattle.mesh_model.specs.declared.sides.Side.TheVariants.{Incoming, Outgoing}
+use Rattle.mesh_model.specs.declared.sides.NodeSide.{NodeSide}
+use Rattle.mesh_model.specs.declared.sides.NodeSide.TheVariants.{Incoming, Outgoing}
 use Rattle.dag_check.specs.declared.node_sums.NodeSums.{NodeSums}
 use Rattle.dag_check.specs.Added.{first_triangles}
 use Rattle.dag_check.specs.Open.{AreKept, KeepsPairs}
@@ -21,7 +21,7 @@ use Rattle.dag_check.specs.AllNodeSums.{AllSumsSeen, pairs_in_all, AreAllSums, A
 use Rattle.dag_check.proofs.OpenLaws.{open_same}
 
 -- how many pairs a node's sum on a side keeps
-abbrev kept_on : Side → NodeSums → ℕ
+abbrev kept_on : NodeSide → NodeSums → ℕ
 kept_on side t = length (chain_on side t).entries
 
 -- what stands in a list of what each element gives
@@ -39,15 +39,15 @@ sum_by-both : (f g : NodeSums → ℕ) (xs : List NodeSums) → sum_by (λ t. f 
 sum_by-both f g [] = refl
 sum_by-both f g (x ∷ xs) = omega (arith, sum_by-cons (λ (t : NodeSums). f t + g t) x xs, sum_by-cons f x xs, sum_by-cons g x xs, sum_by-both f g xs)
 
-taken_is : (side : Side) (n : ℕ) → taken_on side (taken_both n) ≡ n
+taken_is : (side : NodeSide) (n : ℕ) → taken_on side (taken_both n) ≡ n
 taken_is Incoming n = refl
 taken_is Outgoing n = refl
 
-dropped_on : (side : Side) (t : NodeSums) → AreDropped t → kept_on side t ≡ 0
+dropped_on : (side : NodeSide) (t : NodeSums) → AreDropped t → kept_on side t ≡ 0
 dropped_on Incoming t h = ap (λ (c : Chain). length c.entries) h.incoming
 dropped_on Outgoing t h = ap (λ (c : Chain). length c.entries) h.outgoing
 
-are_kept : (side : Side) (index : IndexLists) (n : ℕ) (bodies : List BodyLists) (all_sums : AllSumsSeen) → AreAllSums index (taken_both n) all_sums → AllSumsFollow index (taken_both n) bodies all_sums → AreKept (is_on side) index n bodies (map (kept_on side) all_sums.node_sums)
+are_kept : (side : NodeSide) (index : IndexLists) (n : ℕ) (bodies : List BodyLists) (all_sums : AllSumsSeen) → AreAllSums index (taken_both n) all_sums → AllSumsFollow index (taken_both n) bodies all_sums → AreKept (is_on side) index n bodies (map (kept_on side) all_sums.node_sums)
 are_kept side index n bodies all_sums is follows = record {
   as_many = length-map all_sums.node_sums (kept_on side) ∙ is.as_many;
   open_ones = λ v opens k at.

@@ -9,8 +9,8 @@ use Rattle.mesh_model.specs.Accepted.{is_inner}
 use Rattle.edge_chain.specs.declared.differences.Difference.{Difference}
 use Rattle.edge_chain.specs.Chains.{Chain, IsNetOf}
 use Rattle.edge_chain.specs.NetLaws.{net-nil}
-use Rattle.mesh_model.specs.declared.sides.Side.{Side}
-use Rattle.mesh_model.specs.declared.sides.Side.TheVariants.{Incoming, Outgoing}
+use Rattle.mesh_model.specs.declared.sides.NodeSide.{NodeSide}
+use Rattle.mesh_model.specs.declared.sides.NodeSide.TheVariants.{Incoming, Outgoing}
 use Rattle.dag_check.specs.declared.node_sums.NodeSums.{NodeSums}
 use Rattle.dag_check.specs.Added.{Grows}
 use Rattle.mesh_model.specs.Sides.{is_on}
@@ -18,21 +18,21 @@ use Rattle.dag_check.specs.NodeSums.{other, Taken, taken_on, taken_both, one_mor
 use Rattle.dag_check.proofs.CountLaws.{to_come-step, to_come-le}
 
 -- what holds on one side and on the other holds on each
-pub by_side : (P : Side → Type 0) (side : Side) → P side → P (other side) → (s : Side) → P s
+pub by_side : (P : NodeSide → Type 0) (side : NodeSide) → P side → P (other side) → (s : NodeSide) → P s
 by_side P Incoming here there Incoming = here
 by_side P Incoming here there Outgoing = there
 by_side P Outgoing here there Incoming = there
 by_side P Outgoing here there Outgoing = here
 
-pub taken_same : (side : Side) (taken : Taken) → taken_on side (one_more side taken) ≡ taken_on side taken + 1
+pub taken_same : (side : NodeSide) (taken : Taken) → taken_on side (one_more side taken) ≡ taken_on side taken + 1
 taken_same Incoming taken = refl
 taken_same Outgoing taken = refl
 
-pub taken_other : (side : Side) (taken : Taken) → taken_on (other side) (one_more side taken) ≡ taken_on (other side) taken
+pub taken_other : (side : NodeSide) (taken : Taken) → taken_on (other side) (one_more side taken) ≡ taken_on (other side) taken
 taken_other Incoming taken = refl
 taken_other Outgoing taken = refl
 
-taken_le : (side s : Side) (taken : Taken) → taken_on s taken ≤ taken_on s (one_more side taken)
+taken_le : (side s : NodeSide) (taken : Taken) → taken_on s taken ≤ taken_on s (one_more side taken)
 taken_le Incoming Incoming taken = omega arith
 taken_le Incoming Outgoing taken = omega arith
 taken_le Outgoing Incoming taken = omega arith
@@ -49,7 +49,7 @@ empty_net = record {
 pub empty_sum : (n : ℕ) → IsSum n empty_chain
 empty_sum n = record { triangles = []; net = empty_net; few = omega arith }
 
-pub settled_sum : (t : NodeSums) (n : ℕ) (s : Side) → IsSum n (chain_on s (settled t))
+pub settled_sum : (t : NodeSums) (n : ℕ) (s : NodeSide) → IsSum n (chain_on s (settled t))
 settled_sum t n Incoming = empty_sum n
 settled_sum t n Outgoing = empty_sum n
 
@@ -63,7 +63,7 @@ sum_grows n body before after small g h = record {
   few = omega (arith, g.count, h.few);
 }
 
-pub grown_sums : (side : Side) (taken : Taken) (body : BodyLists) (before after : NodeSums) → length body.corners ≤ 65535 → IsGrown side body before after → ((s : Side) → IsSum (taken_on s taken) (chain_on s before)) → (s : Side) → IsSum (taken_on s (one_more side taken)) (chain_on s after)
+pub grown_sums : (side : NodeSide) (taken : Taken) (body : BodyLists) (before after : NodeSums) → length body.corners ≤ 65535 → IsGrown side body before after → ((s : NodeSide) → IsSum (taken_on s taken) (chain_on s before)) → (s : NodeSide) → IsSum (taken_on s (one_more side taken)) (chain_on s after)
 grown_sums side taken body before after small g h =
     by_side (λ s. IsSum (taken_on s (one_more side taken)) (chain_on s after)) side
     (subst (λ (n : ℕ). IsSum n (chain_on side after)) (sym (taken_same side taken)) (sum_grows (taken_on side taken) body (chain_on side before) (chain_on side after) small g.grows (h side)))
@@ -100,7 +100,7 @@ left_within false total left all before e d low = omega arith
 pub left-le-total : (fields : List PatchField) (taken : Taken) (v : ℕ) (t : NodeSums) → AreNodeSums fields taken v t → t.left ≤ t.total
 left-le-total fields taken v t h = left_within (is_inner fields v) t.total t.left (to_come fields (taken_both 0) v) (to_come fields taken v) h.total h.left (to_come-le fields taken v)
 
-counts_of : (side : Side) (fields : List PatchField) (taken : Taken) (v : ℕ) (f : PatchField) (t : NodeSums) → slice_get fields (taken_on side taken) ≡ Some f → is_on side v f ≡ true → AreNodeSums fields taken v t → AreCounts (is_inner fields v) t.total t.left (to_come fields (taken_both 0) v) (to_come fields taken v) (to_come fields (one_more side taken) v)
+counts_of : (side : NodeSide) (fields : List PatchField) (taken : Taken) (v : ℕ) (f : PatchField) (t : NodeSums) → slice_get fields (taken_on side taken) ≡ Some f → is_on side v f ≡ true → AreNodeSums fields taken v t → AreCounts (is_inner fields v) t.total t.left (to_come fields (taken_both 0) v) (to_come fields taken v) (to_come fields (one_more side taken) v)
 counts_of side fields taken v f t at here h = record {
   total_is = h.total;
   left_is = h.left;
@@ -109,11 +109,11 @@ counts_of side fields taken v f t at here h = record {
 }
 
 -- the node of a patch that is taken has it still to come, if it is inner
-pub is_ready : (side : Side) (fields : List PatchField) (taken : Taken) (v : ℕ) (f : PatchField) (t : NodeSums) → slice_get fields (taken_on side taken) ≡ Some f → is_on side v f ≡ true → AreNodeSums fields taken v t → 0 < t.total → 0 < t.left
+pub is_ready : (side : NodeSide) (fields : List PatchField) (taken : Taken) (v : ℕ) (f : PatchField) (t : NodeSums) → slice_get fields (taken_on side taken) ≡ Some f → is_on side v f ≡ true → AreNodeSums fields taken v t → 0 < t.total → 0 < t.left
 is_ready side fields taken v f t at here h some = ready (is_inner fields v) _ _ _ _ _ (counts_of side fields taken v f t at here h) some
 
 -- a node on whose side the patch isn't
-pub other_node : (side : Side) (fields : List PatchField) (taken : Taken) (v : ℕ) (f : PatchField) (t : NodeSums) → slice_get fields (taken_on side taken) ≡ Some f → is_on side v f ≡ false → AreNodeSums fields taken v t → AreNodeSums fields (one_more side taken) v t
+pub other_node : (side : NodeSide) (fields : List PatchField) (taken : Taken) (v : ℕ) (f : PatchField) (t : NodeSums) → slice_get fields (taken_on side taken) ≡ Some f → is_on side v f ≡ false → AreNodeSums fields taken v t → AreNodeSums fields (one_more side taken) v t
 other_node side fields taken v f t at apart h = record {
   total = h.total;
   left = h.left ∙ ap (λ (n : ℕ). if_inner fields v n) (omega (arith, to_come-step side fields taken v f at, ap one_if apart));
@@ -122,7 +122,7 @@ other_node side fields taken v f t at apart h = record {
 }
 
 -- the node on whose side the patch is
-pub own_node : (side : Side) (fields : List PatchField) (taken : Taken) (v : ℕ) (f : PatchField) (body : BodyLists) (before after : NodeSums) (difference : Option Difference) → slice_get fields (taken_on side taken) ≡ Some f → is_on side v f ≡ true → length body.corners ≤ 65535 → Takes side body before after difference → AreNodeSums fields taken v before → AreNodeSums fields (one_more side taken) v after
+pub own_node : (side : NodeSide) (fields : List PatchField) (taken : Taken) (v : ℕ) (f : PatchField) (body : BodyLists) (before after : NodeSums) (difference : Option Difference) → slice_get fields (taken_on side taken) ≡ Some f → is_on side v f ≡ true → length body.corners ≤ 65535 → Takes side body before after difference → AreNodeSums fields taken v before → AreNodeSums fields (one_more side taken) v after
 own_node side fields taken v f body before after difference at here small (outer e same _) h =
     subst (λ (t : NodeSums). AreNodeSums fields (one_more side taken) v t) (sym same) (record {
       total = h.total;
@@ -149,7 +149,7 @@ pub record IsDone (fields : List PatchField) (taken : Taken) (v : ℕ) : Type 0 
   pub inner : is_inner fields v ≡ true
   pub none_left : to_come fields taken v ≡ 0
 
-pub last_is : (side : Side) (fields : List PatchField) (taken : Taken) (v : ℕ) (f : PatchField) (body : BodyLists) (before grown : NodeSums) → slice_get fields (taken_on side taken) ≡ Some f → is_on side v f ≡ true → 0 < before.total → IsGrown side body before grown → grown.left ≡ 0 → AreNodeSums fields taken v before → IsDone fields (one_more side taken) v
+pub last_is : (side : NodeSide) (fields : List PatchField) (taken : Taken) (v : ℕ) (f : PatchField) (body : BodyLists) (before grown : NodeSums) → slice_get fields (taken_on side taken) ≡ Some f → is_on side v f ≡ true → 0 < before.total → IsGrown side body before grown → grown.left ≡ 0 → AreNodeSums fields taken v before → IsDone fields (one_more side taken) v
 last_is side fields taken v f body before grown at here some g e h =
     let counts = counts_of side fields taken v f before at here h in
     let inner = inner_is (is_inner fields v) _ _ _ _ _ counts some in

@@ -10,7 +10,7 @@ use Rattle.file_model.specs.Lists.{IndexLists}
 use Rattle.mesh_model.specs.Graph.{numbers_from, leads_to, leads_from}
 use Rattle.mesh_model.specs.Nets.{one_if}
 use Rattle.mesh_model.specs.Accepted.{is_inner}
-use Rattle.mesh_model.specs.declared.sides.Side.TheVariants.{Incoming, Outgoing}
+use Rattle.mesh_model.specs.declared.sides.NodeSide.TheVariants.{Incoming, Outgoing}
 use Rattle.dag_check.specs.declared.node_sums.NodeSums.{NodeSums}
 use Rattle.dag_check.specs.Open.{touches, is_open, open_nodes}
 use Rattle.mesh_model.specs.Sides.{is_on}

@@ -6,8 +6,8 @@ use Rattle.file_model.specs.declared.fields.PatchField.{PatchField}
 use Rattle.file_model.specs.Lists.{BodyLists, IndexLists}
 use Rattle.mesh_model.specs.Nets.{one_if}
 use Rattle.mesh_model.specs.Accepted.{is_inner}
-use Rattle.mesh_model.specs.declared.sides.Side.{Side}
-use Rattle.mesh_model.specs.declared.sides.Side.TheVariants.{Incoming, Outgoing}
+use Rattle.mesh_model.specs.declared.sides.NodeSide.{NodeSide}
+use Rattle.mesh_model.specs.declared.sides.NodeSide.TheVariants.{Incoming, Outgoing}
 use Rattle.dag_check.specs.declared.node_sums.NodeSums.{NodeSums}
 use Rattle.dag_check.specs.declared.borders.BorderDifference.{BorderDifference}
 use Rattle.dag_check.specs.Added.{file_with}
@@ -24,7 +24,7 @@ use Rattle.dag_check.proofs.SumLaws.{sum_by_few}
 rests : (n : ℕ) → is_under_way (empty_node_sums n) ≡ false
 rests n = and_right (nat_lt 0 n) (nat_lt n n) (le-ltb n n (omega arith))
 
-new_sums : (n m : ℕ) (s : Side) → IsSum m (chain_on s (empty_node_sums n))
+new_sums : (n m : ℕ) (s : NodeSide) → IsSum m (chain_on s (empty_node_sums n))
 new_sums n m Incoming = empty_sum m
 new_sums n m Outgoing = empty_sum m
 

@@ -10,8 +10,8 @@ use Rattle.std.proofs.lemmas.Map.Entries.{length-keys_of}
 use Rattle.mesh_model.specs.Nets.{one_if}
 use Rattle.edge_chain.specs.Chains.{Chain}
 use Rattle.edge_chain.specs.NetLaws.{open_from_net}
-use Rattle.mesh_model.specs.declared.sides.Side.{Side}
-use Rattle.mesh_model.specs.declared.sides.Side.TheVariants.{Incoming, Outgoing}
+use Rattle.mesh_model.specs.declared.sides.NodeSide.{NodeSide}
+use Rattle.mesh_model.specs.declared.sides.NodeSide.TheVariants.{Incoming, Outgoing}
 use Rattle.dag_check.specs.declared.node_sums.NodeSums.{NodeSums}
 use Rattle.dag_check.specs.NodeSums.{chain_on, is_under_way, pairs_of, IsSum}
 use Rattle.dag_check.specs.AllNodeSums.{AllSumsSeen, under_way, pairs_in_all, IsSummed}
@@ -22,7 +22,7 @@ few_entries : (chain : Chain) → IsSum 65536 chain → length chain.entries ≤
 few_entries chain h =
     omega (arith, few_pairs h.triangles (keys_of chain.entries) (open_from_net h.triangles chain h.net), length-keys_of chain.entries, h.net.count, h.few)
 
-few_kept : (t : NodeSums) → ((s : Side) → IsSum 65536 (chain_on s t)) → pairs_of t ≤ 12 * 65535 * 65536
+few_kept : (t : NodeSums) → ((s : NodeSide) → IsSum 65536 (chain_on s t)) → pairs_of t ≤ 12 * 65535 * 65536
 few_kept t h = omega (arith, few_entries t.incoming (h Incoming), few_entries t.outgoing (h Outgoing))
 
 -- a sum over a list of terms that are small

@@ -5,7 +5,7 @@ use Rattle.file_model.specs.declared.fields.PatchField.{PatchField}
 use Rattle.file_model.specs.Lists.{BodyLists, IndexLists}
 use Rattle.mesh_model.specs.Nets.{one_if}
 use Rattle.edge_chain.specs.declared.differences.Difference.{Difference}
-use Rattle.mesh_model.specs.declared.sides.Side.{Side}
+use Rattle.mesh_model.specs.declared.sides.NodeSide.{NodeSide}
 use Rattle.dag_check.specs.declared.node_sums.NodeSums.{NodeSums}
 use Rattle.dag_check.specs.declared.borders.BorderDifference.{BorderDifference}
 use Rattle.dag_check.specs.declared.all_node_sums.AllNodeSums.{AllNodeSums}
@@ -44,7 +44,7 @@ pairs_in_all node_sums = sum_by pairs_of node_sums
 -- the count is that of the nodes' sums, and no sum is too large to count
 pub record IsSummed (all_sums : AllSumsSeen) : Type 0 where
   pub few_nodes : length all_sums.node_sums ≤ 65536
-  pub sums : (v : ℕ) (t : NodeSums) → slice_get all_sums.node_sums v ≡ Some t → (side : Side) → IsSum 65536 (chain_on side t)
+  pub sums : (v : ℕ) (t : NodeSums) → slice_get all_sums.node_sums v ≡ Some t → (side : NodeSide) → IsSum 65536 (chain_on side t)
   pub open_nodes : all_sums.open_nodes ≡ under_way all_sums.node_sums
 
 -- a body of the node is still to come if it is inner
@@ -52,7 +52,7 @@ abbrev pub IsReady : ℕ → List NodeSums → Type 0
 IsReady node node_sums = (t : NodeSums) → slice_get node_sums node ≡ Some t → 0 < t.total → 0 < t.left
 
 -- a body is taken on one side of a node
-pub record TakesAt (side : Side) (node : ℕ) (body : BodyLists) (before after : AllSumsSeen) : Type 0 where
+pub record TakesAt (side : NodeSide) (node : ℕ) (body : BodyLists) (before after : AllSumsSeen) : Type 0 where
   pub old_sums : NodeSums
   pub empty_node_sums : NodeSums
   pub difference : Option Difference

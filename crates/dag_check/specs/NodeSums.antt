@@ -9,12 +9,12 @@ use Rattle.mesh_model.specs.Accepted.{is_inner}
 use Rattle.mesh_model.specs.Sides.{is_on}
 use Rattle.edge_chain.specs.declared.differences.Difference.{Difference}
 use Rattle.edge_chain.specs.Chains.{Chain, IsNetOf, IsFirstNetDifference}
-use Rattle.mesh_model.specs.declared.sides.Side.{Side}
-use Rattle.mesh_model.specs.declared.sides.Side.TheVariants.{Incoming, Outgoing}
+use Rattle.mesh_model.specs.declared.sides.NodeSide.{NodeSide}
+use Rattle.mesh_model.specs.declared.sides.NodeSide.TheVariants.{Incoming, Outgoing}
 use Rattle.dag_check.specs.declared.node_sums.NodeSums.{NodeSums}
 use Rattle.dag_check.specs.Added.{Grows, first_triangles}
 
-abbrev pub other : Side → Side
+abbrev pub other : NodeSide → NodeSide
 other Incoming = Outgoing
 other Outgoing = Incoming
 
@@ -23,7 +23,7 @@ pub record Taken : Type 0 where
   pub incoming : ℕ
   pub outgoing : ℕ
 
-abbrev pub taken_on : Side → Taken → ℕ
+abbrev pub taken_on : NodeSide → Taken → ℕ
 taken_on Incoming taken = taken.incoming
 taken_on Outgoing taken = taken.outgoing
 
@@ -32,7 +32,7 @@ abbrev pub taken_both : ℕ → Taken
 taken_both n = record { incoming = n; outgoing = n }
 
 -- one body more on a side
-abbrev pub one_more : Side → Taken → Taken
+abbrev pub one_more : NodeSide → Taken → Taken
 one_more Incoming taken = record { incoming = taken.incoming + 1; outgoing = taken.outgoing }
 one_more Outgoing taken = record { incoming = taken.incoming; outgoing = taken.outgoing + 1 }
 
@@ -59,7 +59,7 @@ empty_chain = record { entries = []; count = 0 }
 abbrev pub empty_node_sums : ℕ → NodeSums
 empty_node_sums total = record { incoming = empty_chain; outgoing = empty_chain; total = total; left = total }
 
-abbrev pub chain_on : Side → NodeSums → Chain
+abbrev pub chain_on : NodeSide → NodeSums → Chain
 chain_on Incoming t = t.incoming
 chain_on Outgoing t = t.outgoing
 
@@ -72,7 +72,7 @@ abbrev pub pairs_of : NodeSums → ℕ
 pairs_of t = length t.incoming.entries + length t.outgoing.entries
 
 -- the sum on one side grows by a body
-pub record IsGrown (side : Side) (body : BodyLists) (before after : NodeSums) : Type 0 where
+pub record IsGrown (side : NodeSide) (body : BodyLists) (before after : NodeSums) : Type 0 where
   pub grows : Grows body (chain_on side before) (chain_on side after)
   pub other_side : chain_on (other side) after ≡ chain_on (other side) before
   pub total : after.total ≡ before.total
@@ -88,7 +88,7 @@ Compares t difference = (here there : List Triangle) → IsNetOf here t.incoming
 
 -- a body is taken on one side of a node that isn't inner; of an inner one that has more to come; or it is
 -- an inner one's last body, and its sums are compared and dropped
-pub data Takes (side : Side) (body : BodyLists) (before after : NodeSums) (difference : Option Difference) : Type 0 where
+pub data Takes (side : NodeSide) (body : BodyLists) (before after : NodeSums) (difference : Option Difference) : Type 0 where
   outer : before.total ≡ 0 → after ≡ before → difference ≡ None → Takes side body before after difference
   more : 0 < before.total → IsGrown side body before after → 0 < after.left → difference ≡ None → Takes side body before after difference
   last : 0 < before.total → (grown : NodeSums) → IsGrown side body before grown → grown.left ≡ 0 → after ≡ settled grown → Compares grown difference → Takes side body before after difference
@@ -109,8 +109,8 @@ pub record AreNodeSums (fields : List PatchField) (taken : Taken) (v : ℕ) (t :
   pub total : t.total ≡ inner_patches fields v
   pub left : t.left ≡ if_inner fields v (to_come fields taken v)
   pub dropped : is_under_way t ≡ false → AreDropped t
-  pub sums : (side : Side) → IsSum (taken_on side taken) (chain_on side t)
+  pub sums : (side : NodeSide) → IsSum (taken_on side taken) (chain_on side t)
 
 -- until the node's last body its sums have the nets of the bodies that were added
 abbrev pub NodeSumsFollow : List PatchField → Taken → List BodyLists → ℕ → NodeSums → Type 0
-NodeSumsFollow fields taken bodies v t = 0 < t.left → (side : Side) → IsNetOf (first_triangles (taken_on side taken) (is_on side v) fields bodies) (chain_on side t)
+NodeSumsFollow fields taken bodies v t = 0 < t.left → (side : NodeSide) → IsNetOf (first_triangles (taken_on side taken) (is_on side v) fields bodies) (chain_on side t)

@@ -11,7 +11,7 @@ use crate::node_sums::NodeSums;
 use body_edges::Border;
 use grid_vertex::NoMemory;
 use mesh_graph::MeshGraph;
-use mesh_model::Side;
+use mesh_model::NodeSide;
 use patch_file::{Body, Index};
 use std::alloc::Global;
 
@@ -28,7 +28,7 @@ impl AllNodeSums {
     pub fn take(
         &mut self,
         alloc: Global,
-        side: Side,
+        side: NodeSide,
         node: u32,
         border: &Border,
         body: &Body,

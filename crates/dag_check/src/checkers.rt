@@ -8,7 +8,7 @@ use body_edges::Border;
 use edge_chain::EdgeChain;
 use grid_vertex::NoMemory;
 use mesh_graph::MeshGraph;
-use mesh_model::{DagFault, Side};
+use mesh_model::{DagFault, NodeSide};
 use patch_file::{Body, Index};
 use std::alloc::Global;
 use std::marker::Model;
@@ -107,8 +107,8 @@ impl Checker {
         let _patch = body.patch();
         border.find(body)?;
         add_to_base(&mut base, graph.verdict(), field.tail, &border, body)?;
-        all_sums.take(alloc, Side::Incoming, field.head, &border, body)?;
-        all_sums.take(alloc, Side::Outgoing, field.tail, &border, body)?;
+        all_sums.take(alloc, NodeSide::Incoming, field.head, &border, body)?;
+        all_sums.take(alloc, NodeSide::Outgoing, field.tail, &border, body)?;
         Ok(Checker {
             alloc,
             index,

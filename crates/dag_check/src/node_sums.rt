@@ -9,7 +9,7 @@ ghost use Rattle.dag_check.specs.NodeSums.{empty_node_sums, is_under_way, pairs_
 use body_edges::{Border, add_border};
 use edge_chain::{Difference, EdgeChain};
 use grid_vertex::NoMemory;
-use mesh_model::Side;
+use mesh_model::NodeSide;
 use patch_file::Body;
 use std::alloc::Global;
 
@@ -58,7 +58,7 @@ impl NodeSums {
     pub fn take(
         &mut self,
         alloc: Global,
-        side: Side,
+        side: NodeSide,
         border: &Border,
         body: &Body,
     ) -> Result<Option<Difference>, NoMemory>
@@ -78,7 +78,7 @@ impl NodeSums {
     }
 
     // Adds a body to the sum on one side.
-    fn grow(&mut self, side: Side, border: &Border, body: &Body) -> Result<(), NoMemory>
+    fn grow(&mut self, side: NodeSide, border: &Border, body: &Body) -> Result<(), NoMemory>
         requires border { IsBorderOf border.now body.now.lists }
         requires room { (chain_on side self.old).count ≤ MOST_IN_PATCH * MOST_PATCHES }
         requires left { 0 < self.old.left }
@@ -86,8 +86,8 @@ impl NodeSums {
     {
         self.left -= 1;
         match side {
-            Side::Incoming => add_border(&mut self.incoming, border, body),
-            Side::Outgoing => add_border(&mut self.outgoing, border, body),
+            NodeSide::Incoming => add_border(&mut self.incoming, border, body),
+            NodeSide::Outgoing => add_border(&mut self.outgoing, border, body),
         }
     }
 

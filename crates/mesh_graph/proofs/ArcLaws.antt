@@ -9,8 +9,8 @@ use Rattle.std.proofs.lemmas.List.FromFn.{length-range_with_len, get_or-range_wi
 use Rattle.std.proofs.lemmas.Option.{slice_get_within, slice_get-get_or}
 use Rattle.file_model.specs.declared.fields.PatchField.{PatchField}
 use Rattle.mesh_model.specs.Chosen.{chosen_few}
-use Rattle.mesh_model.specs.declared.sides.Side.{Side}
-use Rattle.mesh_model.specs.declared.sides.Side.TheVariants.{Incoming, Outgoing}
+use Rattle.mesh_model.specs.declared.sides.NodeSide.{NodeSide}
+use Rattle.mesh_model.specs.declared.sides.NodeSide.TheVariants.{Incoming, Outgoing}
 use Rattle.mesh_model.specs.Sides.{node_on, is_on}
 use Rattle.mesh_graph.specs.Sides.{patches_at}
 use Rattle.mesh_graph.specs.Adjacency.{IsAdjacency}
@@ -22,16 +22,16 @@ abbrev no_field : PatchField
 no_field = record { tail = 0; head = 0; points = 0; triangles = 0 }
 
 -- a node's list has its patches
-pub list_is : (side : Side) (fields : List PatchField) (nodes : ℕ) (lists : List (List ℕ)) (v : ℕ) (ps : List ℕ) → IsAdjacency side fields nodes lists → v < nodes → slice_get lists v ≡ Some ps → ps ≡ patches_at side fields v
+pub list_is : (side : NodeSide) (fields : List PatchField) (nodes : ℕ) (lists : List (List ℕ)) (v : ℕ) (ps : List ℕ) → IsAdjacency side fields nodes lists → v < nodes → slice_get lists v ≡ Some ps → ps ≡ patches_at side fields v
 list_is side fields nodes lists v ps arcs v_in is = let e : Some ps ≡ Some (patches_at side fields v) = sym is ∙ arcs.each v v_in in cc
 
 -- a patch of a node's list
-pub record IsAmong (side : Side) (fields : List PatchField) (v p : ℕ) : Type 0 where
+pub record IsAmong (side : NodeSide) (fields : List PatchField) (v p : ℕ) : Type 0 where
   pub field : PatchField
   pub there : slice_get fields p ≡ Some field
   pub on : node_on side field ≡ v
 
-pub among : (side : Side) (fields : List PatchField) (v p : ℕ) → Contains (patches_at side fields v) p → IsAmong side fields v p
+pub among : (side : NodeSide) (fields : List PatchField) (v p : ℕ) → Contains (patches_at side fields v) p → IsAmong side fields v p
 among side fields v p h =
     let is : IsPassing (is_on side v) fields 0 p = passing_from (is_on side v) fields 0 p h in
     let place : p ≡ is.place = omega (arith, is.number) in
@@ -41,16 +41,16 @@ among side fields v p h =
       on = eqb-true (node_on side is.field) v is.passes;
     }
 
-pub in_range : (side : Side) (fields : List PatchField) (v : ℕ) → All (λ p. p < length fields) (patches_at side fields v)
+pub in_range : (side : NodeSide) (fields : List PatchField) (v : ℕ) → All (λ p. p < length fields) (patches_at side fields v)
 in_range side fields v k d k_in =
     let is : IsAmong side fields v (get_or (patches_at side fields v) k d) = among side fields v (get_or (patches_at side fields v) k d) (Contains-get_or (patches_at side fields v) k d k_in) in
     slice_get_within fields (get_or (patches_at side fields v) k d) is.field is.there
 
-pub list_in_range : (side : Side) (fields : List PatchField) (nodes : ℕ) (lists : List (List ℕ)) (v : ℕ) (ps : List ℕ) → IsAdjacency side fields nodes lists → v < nodes → slice_get lists v ≡ Some ps → All (λ p. p < length fields) ps
+pub list_in_range : (side : NodeSide) (fields : List PatchField) (nodes : ℕ) (lists : List (List ℕ)) (v : ℕ) (ps : List ℕ) → IsAdjacency side fields nodes lists → v < nodes → slice_get lists v ≡ Some ps → All (λ p. p < length fields) ps
 list_in_range side fields nodes lists v ps arcs v_in is = rw (list_is side fields nodes lists v ps arcs v_in is) (in_range side fields v)
 
 -- a node has no more patches than there are
-pub list_few : (side : Side) (fields : List PatchField) (nodes : ℕ) (lists : List (List ℕ)) (v : ℕ) (ps : List ℕ) → IsAdjacency side fields nodes lists → v < nodes → slice_get lists v ≡ Some ps → length ps ≤ length fields
+pub list_few : (side : NodeSide) (fields : List PatchField) (nodes : ℕ) (lists : List (List ℕ)) (v : ℕ) (ps : List ℕ) → IsAdjacency side fields nodes lists → v < nodes → slice_get lists v ≡ Some ps → length ps ≤ length fields
 list_few side fields nodes lists v ps arcs v_in is = rw (list_is side fields nodes lists v ps arcs v_in is) (chosen_few (is_on side v) fields)
 
 -- an incoming patch from a node without a level

@@ -6,7 +6,7 @@ use Rattle.std.proofs.lemmas.List.{drop-drop, drop_all, length-set, length-repli
 use Rattle.std.proofs.lemmas.Option.{slice_get_within, slice_get-get_or, slice_get_read}
 use Rattle.file_model.specs.declared.fields.PatchField.{PatchField}
 use Rattle.mesh_model.specs.Graph.{patches_from}
-use Rattle.mesh_model.specs.declared.sides.Side.{Side}
+use Rattle.mesh_model.specs.declared.sides.NodeSide.{NodeSide}
 use Rattle.mesh_model.specs.Sides.{node_on, is_on}
 use Rattle.mesh_graph.specs.Sides.{patches_at, patches_past}
 use Rattle.mesh_graph.specs.ListReads.{slice_get-set_same, slice_get-set_other}
@@ -64,14 +64,14 @@ slice_get-drop [] (suc n) i = refl
 slice_get-drop (x ∷ xs) (suc n) i = slice_get-drop xs n i ∙ ap (slice_get (x ∷ xs)) (let e : suc (n + i) ≡ suc n + i = omega arith in e)
 
 -- the first of a node's patches from a number on, and those after it
-pub record IsFirstPast (side : Side) (fields : List PatchField) (v start p : ℕ) : Type 0 where
+pub record IsFirstPast (side : NodeSide) (fields : List PatchField) (v start p : ℕ) : Type 0 where
   pub field : PatchField
   pub later : start ≤ p
   pub there : slice_get fields p ≡ Some field
   pub on : node_on side field ≡ v
   pub others : patches_past side fields v start ≡ p ∷ patches_past side fields v (p + 1)
 
-pub first_past : (side : Side) (fields : List PatchField) (v start p : ℕ) → first_of (patches_past side fields v start) ≡ Some p → IsFirstPast side fields v start p
+pub first_past : (side : NodeSide) (fields : List PatchField) (v start p : ℕ) → first_of (patches_past side fields v start) ≡ Some p → IsFirstPast side fields v start p
 first_past side fields v start p h =
     let is : IsFirst (is_on side v) (drop start fields) start p = is_first (is_on side v) (drop start fields) start p h in
     let there : slice_get fields (start + is.place) ≡ Some is.field = sym (slice_get-drop fields start is.place) ∙ is.there in
@@ -85,21 +85,21 @@ first_past side fields v start p h =
     }
 
 -- a patch on the node's side comes first
-pub past-on : (side : Side) (fields : List PatchField) (v i : ℕ) (f : PatchField) → slice_get fields i ≡ Some f → node_on side f ≡ v → patches_past side fields v i ≡ i ∷ patches_past side fields v (i + 1)
+pub past-on : (side : NodeSide) (fields : List PatchField) (v i : ℕ) (f : PatchField) → slice_get fields i ≡ Some f → node_on side f ≡ v → patches_past side fields v i ≡ i ∷ patches_past side fields v (i + 1)
 unfolding patches_from
 past-on side fields v i f there on =
     let holds : is_on side v f ≡ true = eq-eqb (node_on side f) v on in
     rw (drop-at fields i f there, holds) refl
 
 -- a patch elsewhere is passed over
-pub past-off : (side : Side) (fields : List PatchField) (v i : ℕ) (f : PatchField) → slice_get fields i ≡ Some f → node_on side f ≢ v → patches_past side fields v i ≡ patches_past side fields v (i + 1)
+pub past-off : (side : NodeSide) (fields : List PatchField) (v i : ℕ) (f : PatchField) → slice_get fields i ≡ Some f → node_on side f ≢ v → patches_past side fields v i ≡ patches_past side fields v (i + 1)
 unfolding patches_from
 past-off side fields v i f there off =
     let fails : is_on side v f ≡ false = ne_eqb (node_on side f) v off in
     rw (drop-at fields i f there, fails) refl
 
 -- one patch more is linked
-module _ (side : Side) (fields : List PatchField) (i : ℕ) (f : PatchField) (first next : List (Option ℕ)) (link : Option ℕ) (there : slice_get fields i ≡ Some f) (in_first : node_on side f < length first) (in_next : i < length next) (linked : AreLinked side fields (i + 1) first next) (is_link : slice_get first (node_on side f) ≡ Some link) where
+module _ (side : NodeSide) (fields : List PatchField) (i : ℕ) (f : PatchField) (first next : List (Option ℕ)) (link : Option ℕ) (there : slice_get fields i ≡ Some f) (in_first : node_on side f < length first) (in_next : i < length next) (linked : AreLinked side fields (i + 1) first next) (is_link : slice_get first (node_on side f) ≡ Some link) where
   head_more : (v : ℕ) → v < length (set first (node_on side f) (Some i)) → slice_get (set first (node_on side f) (Some i)) v ≡ Some (first_of (patches_past side fields v i))
   head_more v v_in =
       ⊎_elim
@@ -130,14 +130,14 @@ pub slice_get-replicate : {X : Type 0} → (n i : ℕ) (x : X) → i < n → sli
 slice_get-replicate n i x h = slice_get-get_or (replicate n x) i x (rw length-replicate h) ∙ ap Some (get_or-replicate n i x x h)
 
 -- at first no patch is linked
-pub linked_none : (side : Side) (fields : List PatchField) (nodes : ℕ) (next : List (Option ℕ)) → AreLinked side fields (length fields) (replicate nodes None) next
+pub linked_none : (side : NodeSide) (fields : List PatchField) (nodes : ℕ) (next : List (Option ℕ)) → AreLinked side fields (length fields) (replicate nodes None) next
 unfolding patches_from
 linked_none side fields nodes next = record {
   heads = λ v v_in. rw (drop_all (length fields) fields (omega arith)) (slice_get-replicate nodes v None (rw length-replicate at v_in));
   nexts = λ p f later there. absurd (omega (arith, slice_get_within fields p f there));
 }
 
-chain_along : (side : Side) (fields : List PatchField) (first next : List (Option ℕ)) (v start : ℕ) → AreLinked side fields 0 first next → (ps : List ℕ) → patches_past side fields v start ≡ ps → IsChain next (first_of ps) ps
+chain_along : (side : NodeSide) (fields : List PatchField) (first next : List (Option ℕ)) (v start : ℕ) → AreLinked side fields 0 first next → (ps : List ℕ) → patches_past side fields v start ≡ ps → IsChain next (first_of ps) ps
 chain_along side fields first next v start linked [] e = refl
 chain_along side fields first next v start linked (p ∷ ps) e =
     let is : IsFirstPast side fields v start p = first_past side fields v start p (ap first_of e) in
@@ -146,7 +146,7 @@ chain_along side fields first next v start linked (p ∷ ps) e =
     (refl, first_of ps, (linked.nexts p is.field (omega arith) is.there ∙ ap (λ (w : ℕ). Some (first_of (patches_past side fields w (p + 1)))) is.on ∙ ap (λ (qs : List ℕ). Some (first_of qs)) rest), after (first_of ps) refl, chain_along side fields first next v (p + 1) linked ps rest)
 
 -- where all patches are linked, the chain of a node has its patches
-pub chain_is : (side : Side) (fields : List PatchField) (first next : List (Option ℕ)) (v : ℕ) (start : Option ℕ) → AreLinked side fields 0 first next → v < length first → slice_get first v ≡ Some start → IsChain next start (patches_at side fields v)
+pub chain_is : (side : NodeSide) (fields : List PatchField) (first next : List (Option ℕ)) (v : ℕ) (start : Option ℕ) → AreLinked side fields 0 first next → v < length first → slice_get first v ≡ Some start → IsChain next start (patches_at side fields v)
 chain_is side fields first next v start linked v_in is =
     let same : start ≡ first_of (patches_at side fields v) = let s : Some start ≡ Some (first_of (patches_past side fields v 0)) = sym is ∙ linked.heads v v_in in cc in
     rw same (chain_along side fields first next v 0 linked (patches_at side fields v) refl)
@@ -211,7 +211,7 @@ module _ (next : List (Option ℕ)) (p : ℕ) (following : Option ℕ) (is_then 
       )
 
 -- the next patch down is linked
-pub linked_down : (side : Side) (fields : List PatchField) (patch : ℕ) (f : PatchField) (node : ℕ) (first next : List (Option ℕ)) (link : Option ℕ) → 0 < patch → slice_get fields (patch - 1) ≡ Some f → node ≡ node_on side f → node < length first → patch - 1 < length next → AreLinked side fields patch first next
+pub linked_down : (side : NodeSide) (fields : List PatchField) (patch : ℕ) (f : PatchField) (node : ℕ) (first next : List (Option ℕ)) (link : Option ℕ) → 0 < patch → slice_get fields (patch - 1) ≡ Some f → node ≡ node_on side f → node < length first → patch - 1 < length next → AreLinked side fields patch first next
     → link ≡ get_or first node link → AreLinked side fields (patch - 1) (set first node (Some (patch - 1))) (set next (patch - 1) link)
 linked_down side fields patch f node first next link positive there is_node in_first in_next linked is_link =
     let number : patch ≡ patch - 1 + 1 = omega arith in

@@ -6,7 +6,7 @@ use Rattle.std.proofs.lemmas.Option.{slice_get-get_or}
 use Rattle.file_model.specs.declared.fields.Node.{Node}
 use Rattle.file_model.specs.declared.fields.PatchField.{PatchField}
 use Rattle.mesh_model.specs.Accepted.{nested_by}
-use Rattle.mesh_model.specs.declared.sides.Side.TheVariants.{Outgoing}
+use Rattle.mesh_model.specs.declared.sides.NodeSide.TheVariants.{Outgoing}
 use Rattle.mesh_graph.specs.Adjacency.{IsAdjacency, is_bare_at}
 use Rattle.mesh_graph.proofs.RootLaws.{bare_is}
 

@@ -7,8 +7,8 @@ use Rattle.file_model.specs.declared.fields.PatchField.{PatchField}
 use Rattle.mesh_model.specs.declared.refusals.DagFault.{DagFault}
 use Rattle.mesh_model.specs.declared.refusals.DagFault.TheVariants.{NoRoot, TwoRoots}
 use Rattle.mesh_model.specs.Graph.{patches_from, numbers_from, nodes_where, roots, is_root, only_root}
-use Rattle.mesh_model.specs.declared.sides.Side.{Side}
-use Rattle.mesh_model.specs.declared.sides.Side.TheVariants.{Incoming}
+use Rattle.mesh_model.specs.declared.sides.NodeSide.{NodeSide}
+use Rattle.mesh_model.specs.declared.sides.NodeSide.TheVariants.{Incoming}
 use Rattle.mesh_model.specs.Sides.{is_on}
 use Rattle.mesh_graph.specs.Adjacency.{IsAdjacency, is_empty_list, is_bare_at}
 
@@ -22,7 +22,7 @@ bare_from test [] start = refl
 bare_from test (f ∷ fs) start = bare-by start (patches_from (start + 1) test fs) (test f) (list_any test fs) (bare_from test fs (start + 1))
 
 -- a node is bare where no patch touches it
-pub bare_is : (side : Side) (fields : List PatchField) (nodes : ℕ) (lists : List (List ℕ)) (v : ℕ) → IsAdjacency side fields nodes lists → v < nodes → is_bare_at lists v ≡ not (list_any (is_on side v) fields)
+pub bare_is : (side : NodeSide) (fields : List PatchField) (nodes : ℕ) (lists : List (List ℕ)) (v : ℕ) → IsAdjacency side fields nodes lists → v < nodes → is_bare_at lists v ≡ not (list_any (is_on side v) fields)
 bare_is side fields nodes lists v arcs v_in = ap is_empty_list (arcs.each v v_in) ∙ bare_from (is_on side v) fields 0
 
 numbers-by : (first : ℕ) (xs ys : List ℕ) (s t : Bool) → s ≡ t → xs ≡ ys → (if s then first ∷ xs else xs) ≡ (if t then first ∷ ys else ys)

@@ -5,7 +5,7 @@ use Rattle.std.specs.List.{list_all}
 use Rattle.std.proofs.lemmas.Bool.{and_parts, ltb-true}
 use Rattle.file_model.specs.declared.fields.PatchField.{PatchField}
 use Rattle.file_model.specs.Rules.{is_field, has_ends, has_counts}
-use Rattle.mesh_model.specs.declared.sides.Side.TheVariants.{Incoming, Outgoing}
+use Rattle.mesh_model.specs.declared.sides.NodeSide.TheVariants.{Incoming, Outgoing}
 use Rattle.mesh_graph.specs.Chains.{HaveNodes}
 use Rattle.mesh_graph.specs.NearGrid.{each_passes}
 

@@ -5,7 +5,7 @@ use Rattle.std.specs.Option.{option_map}
 use Rattle.std.proofs.lemmas.List.{drop-append-le, take-append-le, drop_at, take_all, length-map}
 use Rattle.std.proofs.lemmas.Option.{slice_get-map}
 use Rattle.file_model.specs.declared.fields.PatchField.{PatchField}
-use Rattle.mesh_model.specs.declared.sides.Side.{Side}
+use Rattle.mesh_model.specs.declared.sides.NodeSide.{NodeSide}
 use Rattle.mesh_graph.specs.declared.arcs.Span.{Span}
 use Rattle.mesh_graph.specs.Sides.{patches_at}
 use Rattle.mesh_graph.specs.Spans.{list_in, lists_in, IsSpan, AreSpans}
@@ -33,12 +33,12 @@ range_new xs more =
     ap (take (length (xs ++ more) - length xs)) (drop_at xs more (length xs) refl) ∙ take_all (length (xs ++ more) - length xs) more (omega (arith, length-append xs more))
 
 -- the spans that were made hold the patches of the nodes so far
-pub record AreSpansOf (side : Side) (fields : List PatchField) (patches : List ℕ) (spans : List Span) : Type 0 where
+pub record AreSpansOf (side : NodeSide) (fields : List PatchField) (patches : List ℕ) (spans : List Span) : Type 0 where
   pub are : AreSpans patches spans
   pub each : (v : ℕ) (span : Span) → slice_get spans v ≡ Some span → list_in patches span ≡ patches_at side fields v
 
 -- one node more
-pub spans_more : (side : Side) (fields : List PatchField) (patches more : List ℕ) (spans : List Span) (span : Span) → AreSpansOf side fields patches spans → more ≡ patches ++ patches_at side fields (length spans) → span.start ≡ length patches → span.end ≡ length more → AreSpansOf side fields more (spans ++ span ∷ [])
+pub spans_more : (side : NodeSide) (fields : List PatchField) (patches more : List ℕ) (spans : List Span) (span : Span) → AreSpansOf side fields patches spans → more ≡ patches ++ patches_at side fields (length spans) → span.start ≡ length patches → span.end ≡ length more → AreSpansOf side fields more (spans ++ span ∷ [])
 spans_more side fields patches more spans span are is start end =
     let longer : length patches ≤ length more = omega (arith, ap length is, length-append patches (patches_at side fields (length spans))) in
     record {
@@ -56,7 +56,7 @@ spans_more side fields patches more spans span are is start end =
     }
 
 -- the spans of all nodes
-pub arcs_from_spans : (side : Side) (fields : List PatchField) (nodes : ℕ) (patches : List ℕ) (spans : List Span) → length spans ≡ nodes → AreSpansOf side fields patches spans → IsAdjacency side fields nodes (lists_in patches spans)
+pub arcs_from_spans : (side : NodeSide) (fields : List PatchField) (nodes : ℕ) (patches : List ℕ) (spans : List Span) → length spans ≡ nodes → AreSpansOf side fields patches spans → IsAdjacency side fields nodes (lists_in patches spans)
 arcs_from_spans side fields nodes patches spans as_many are = record {
   as_many = length-map spans (list_in patches) ∙ as_many;
   each = λ v v_in.

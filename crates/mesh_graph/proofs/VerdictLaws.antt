@@ -9,7 +9,7 @@ use Rattle.mesh_model.specs.Graph.{nodes_where, roots, only_root, is_root, is_si
 use Rattle.file_model.specs.Lists.{IndexLists}
 use Rattle.mesh_model.specs.Walks.{IsGrounded, IsLevel}
 use Rattle.mesh_model.specs.Accepted.{AllGrounded, IsLeastUngrounded, IsGraphFault}
-use Rattle.mesh_model.specs.declared.sides.Side.TheVariants.{Incoming, Outgoing}
+use Rattle.mesh_model.specs.declared.sides.NodeSide.TheVariants.{Incoming, Outgoing}
 use Rattle.mesh_graph.specs.Adjacency.{IsAdjacency, is_bare_at}
 use Rattle.mesh_graph.specs.Levels.{AreAllLevels, IsLeastWithout, level_grounds}
 use Rattle.mesh_graph.specs.Graphs.{index_of, GraphSeen, IsGraphOf}

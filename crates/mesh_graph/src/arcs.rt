@@ -8,7 +8,7 @@ ghost use Rattle.mesh_graph.specs.Adjacency.{IsAdjacency, is_bare_at};
 use crate::chains::{link, push_chain};
 use file_model::PatchField;
 use grid_vertex::NoMemory;
-use mesh_model::Side;
+use mesh_model::NodeSide;
 use std::alloc::Global;
 use std::marker::Model;
 
@@ -41,7 +41,7 @@ impl Adjacency {
     /// The patches on one side of each of so many nodes, ascending.
     pub fn of(
         alloc: Global,
-        side: Side,
+        side: NodeSide,
         nodes: usize,
         fields: &[PatchField],
     ) -> Result<Adjacency, NoMemory>

@@ -10,7 +10,7 @@ use crate::blanks::blank_list;
 use crate::sides::node_of;
 use file_model::PatchField;
 use grid_vertex::NoMemory;
-use mesh_model::Side;
+use mesh_model::NodeSide;
 use std::alloc::Global;
 
 /// For each node its first patch, and for each patch the next one of the same node.
@@ -23,7 +23,7 @@ pub struct Chains {
 /// Links the patches on one side of each node, ascending.
 pub fn link(
     alloc: Global,
-    side: Side,
+    side: NodeSide,
     nodes: usize,
     fields: &[PatchField],
 ) -> Result<Chains, NoMemory>

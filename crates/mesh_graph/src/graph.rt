@@ -15,7 +15,7 @@ use crate::levels::levels_of;
 use crate::verdict::verdict_of;
 use file_model::{Node, PatchField};
 use grid_vertex::NoMemory;
-use mesh_model::{DagFault, Side};
+use mesh_model::{DagFault, NodeSide};
 use std::alloc::Global;
 use std::marker::Model;
 
@@ -54,8 +54,8 @@ impl MeshGraph {
         ensures { IfOk result
             (λ graph. (version : ℕ) → IsGraphOf (index_of version nodes.now fields.now) graph) }
     {
-        let incoming = Adjacency::of(alloc, Side::Incoming, nodes.len(), fields)?;
-        let outgoing = Adjacency::of(alloc, Side::Outgoing, nodes.len(), fields)?;
+        let incoming = Adjacency::of(alloc, NodeSide::Incoming, nodes.len(), fields)?;
+        let outgoing = Adjacency::of(alloc, NodeSide::Outgoing, nodes.len(), fields)?;
         let levels = levels_of(alloc, &incoming, &outgoing, fields)?;
         let verdict = verdict_of(&incoming, &outgoing, &levels, nodes, fields);
         Ok(MeshGraph {

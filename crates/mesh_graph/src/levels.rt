@@ -3,7 +3,7 @@
 ghost use Rattle.std.specs.Prelude.{◌≡◌, ℕ, ◌+◌, ◌<◌, ◌≤◌, ◌++◌, length, map, slice_get, Some, None, IfOk, OnOk, MatchOption, IfSome, All};
 ghost use Rattle.std.specs.List.{Contains, range_with_len};
 ghost use Rattle.file_model.specs.declared.limits.TheConstants.{MOST_NODES, MOST_PATCHES};
-ghost use Rattle.mesh_model.specs.declared.sides.Side.TheVariants.{Incoming, Outgoing};
+ghost use Rattle.mesh_model.specs.declared.sides.NodeSide.TheVariants.{Incoming, Outgoing};
 ghost use Rattle.mesh_graph.specs.Chains.{HaveNodes};
 ghost use Rattle.mesh_graph.specs.Adjacency.{IsAdjacency};
 ghost use Rattle.mesh_graph.specs.Levels.{AreLevels, IsOpen, HasOpenParent, HasTailLevel, IsLevelOver, IsNextLevel, AreAllLevels, IsLeastWithout, head_of};

@@ -5,7 +5,7 @@ ghost use Rattle.file_model.specs.declared.limits.TheConstants.{MOST_PATCHES};
 ghost use Rattle.file_model.specs.declared.fields.PatchField.{PatchField};
 ghost use Rattle.grid_vertex.specs.Points.{IsNearGrid};
 ghost use Rattle.mesh_model.specs.Accepted.{nested_by, AllNested, IsLeastUnnested};
-ghost use Rattle.mesh_model.specs.declared.sides.Side.TheVariants.{Incoming, Outgoing};
+ghost use Rattle.mesh_model.specs.declared.sides.NodeSide.TheVariants.{Incoming, Outgoing};
 ghost use Rattle.mesh_graph.specs.Chains.{HaveNodes};
 ghost use Rattle.mesh_graph.specs.Adjacency.{IsAdjacency};
 ghost use Rattle.mesh_graph.specs.Graphs.{index_of};

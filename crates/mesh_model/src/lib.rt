@@ -9,4 +9,4 @@ mod refusals;
 mod sides;
 
 pub use refusals::{DagFault, Refusal};
-pub use sides::Side;
+pub use sides::NodeSide;

@@ -2,7 +2,7 @@
 
 /// Which patches of a node.
 #[derive(Clone, Copy, Debug, PartialEq, Eq)]
-pub enum Side {
+pub enum NodeSide {
     /// Those that lead to it.
     Incoming,
     /// Those that lead from it.

@@ -21,7 +21,7 @@ use Rattle.tier_model.specs.Chains.{Chain, has_below, is_top, told_at, epochs_th
 use Rattle.run_model.specs.Worlds.{World, IsFileBody}
 use Rattle.run_model.specs.States.{State, board_of, seated, posting, moved}
 use Rattle.run_model.specs.Turning.{GivesHeld, GivesStored, GivesBelow, IfFetched, uses_of, found_by, turn_at, TurnsTo}
-use Rattle.run_model.specs.Lines.{TierTold, tier_told, Did, DidFrame, DidTell, top_body, frame_of, IdlesTo, LastTurn, MoreTurns, SettlesTo, AllSettled, TierSettles, Does, DoesOpen, DoesView, DoesStep, DoesFrame, DoesFree, DoesClose, DoesTurn, DoesSettle, DoesStatus}
+use Rattle.run_model.specs.Lines.{TierTold, tier_told, Did, DidFrame, DidTell, top_body, frame_of, frame_with, IdlesTo, LastTurn, MoreTurns, SettlesTo, AllSettled, TierSettles, Does, DoesOpen, DoesView, DoesStep, DoesFrame, DoesFree, DoesClose, DoesTurn, DoesSettle, DoesStatus}
 use Rattle.run_laws.specs.BlankTiers.{blank_body, blank, blank_fetched, blank_at, blank_held, blank_load, blank_count, blank_leaving, blank_begun, blank_turns, blank_tiers_twice}
 
 -- the state with bodies without their bytes
@@ -162,7 +162,7 @@ blank_triangles tiers [] = refl
 blank_triangles tiers (p ∷ ps) = ap₂ (λ (xs ys : List Triangle). xs ++ ys) (ap triangles_of (blank_top tiers p)) (blank_triangles tiers ps)
 
 blank_frame : (tiers : List TierState) (i : ℕ) (s : SessionState) (round : Refining) → frame_of (map blank tiers) i s round ≡ frame_of tiers i s round
-unfolding frame_of
+unfolding frame_of frame_with
 blank_frame tiers i s round = ap (λ (triangles : List Triangle). record (frame_of tiers i s round) { triangles = triangles }) (blank_triangles tiers (cut_patches round))
 
 blank_tier_told : (t : TierState) → tier_told (blank t) ≡ tier_told t

@@ -39,7 +39,7 @@ use Rattle.run_model.specs.Worlds.{World, IsWorld}
 use Rattle.run_model.specs.States.{State}
 use Rattle.run_model.specs.Safe.{IsHeldAtTop, IsSafe}
 use Rattle.run_laws.specs.SafeLaws.{events_keep_safe}
-use Rattle.run_model.specs.Lines.{Did, DidOpen, DidView, DidStep, DidFrame, DidFree, DidClose, DidTurns, DidTell, top_body, frame_of, Does, DoesOpen, DoesView, DoesStep, DoesFrame, DoesFree, DoesClose, DoesTurn, DoesSettle, DoesStatus, Runs, NoLine, OneLine}
+use Rattle.run_model.specs.Lines.{Did, DidOpen, DidView, DidStep, DidFrame, DidFree, DidClose, DidTurns, DidTell, top_body, frame_of, frame_with, Does, DoesOpen, DoesView, DoesStep, DoesFrame, DoesFree, DoesClose, DoesTurn, DoesSettle, DoesStatus, Runs, NoLine, OneLine}
 use Rattle.run_laws.specs.RunLaws.{does_keeps_safe}
 use Rattle.run_laws.specs.SessionReach.{finishes_go, finishes_view}
 
@@ -138,7 +138,7 @@ module _ (w : World) (bodies : List BodyLists) (is_told : IsTold w bodies) where
         held_lists c k (frame_held w c safe i t at round there k among) ∙ ap (λ (n : ℕ). Some (top_body c.chain.tiers n).lists) number
 
     shows_round : (c : State) → IsSafe w c → (i : ℕ) (t : SessionState) → c.sessions i ≡ Some t → t.round ≡ Some round → pending_ask round ≡ NothingAsked → ShowsRound (told_file w bodies) (view_rules view w.mesh) (frame_of c.chain.tiers i t round)
-    unfolding rules_of frame_of cut_of cut_patches
+    unfolding rules_of frame_of frame_with cut_of cut_patches
     shows_round c safe i t at there done =
         let refining = ((safe.seats i t at).running round there).refining in
         let triangles = chosen_triangles (leads_out in_cut) 0 (top_body c.chain.tiers) w.mesh.index.fields bodies (bodies_at c safe i t at there) in
@@ -200,7 +200,7 @@ IfFrame (DidTurns log) P = Unit {0}
 IfFrame (DidTell tiers) P = Unit {0}
 
 pub prints_frame : (w : World) (bodies : List BodyLists) (a b : State) (order : Order) (did : Did) → IsTold w bodies → IsWorld w → IsSafe w a → Does w a order did b → IfFrame did (IsPrinted w bodies a)
-unfolding frame_of
+unfolding frame_of frame_with
 prints_frame w bodies a b order did is_told world safe (DoesFrame i s t view tries done at viewed finishes) = record {
   s = s;
   at = at;

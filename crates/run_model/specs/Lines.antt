@@ -52,16 +52,20 @@ pub data Did : Type 0 where
 abbrev pub top_body : List TierState → ℕ → SeenBody
 top_body tiers p = option_map_or (λ (top : TierState). unwrap_or (slice_index_or top.held p None) no_body) (slice_get tiers 0) no_body
 
--- the session's next frame: its round's cut, answers and patches, and the triangles of their bodies in the top tier
-unfoldable pub frame_of : List TierState → ℕ → SessionState → Refining → Frame
-frame_of tiers i s round = record {
+-- the session's next frame: its round's cut, answers and patches, and the triangles of these bodies
+unfoldable pub frame_with : List SeenBody → ℕ → SessionState → Refining → Frame
+frame_with bodies i s round = record {
   session = i;
   number = s.frames + 1;
   cut = cut_of round;
   tries = round.tries;
   patches = cut_patches round;
-  triangles = flat_map (λ (body : SeenBody). triangles_of body.lists) (map (top_body tiers) (cut_patches round));
+  triangles = flat_map (λ (body : SeenBody). triangles_of body.lists) bodies;
 }
+
+-- the session's next frame, of its patches' bodies in the top tier
+unfoldable pub frame_of : List TierState → ℕ → SessionState → Refining → Frame
+frame_of tiers i s round = frame_with (map (top_body tiers) (cut_patches round)) i s round
 
 -- ---- turns
 

@@ -23,7 +23,7 @@ use Rattle.run_model.specs.RunTexts.{is_lowest, lowest_turns}
 use Rattle.run_model.specs.Safe.{IsSafe}
 use Rattle.view_machine.specs.LineCounts.{IsNoFailure, HasNoFailure, IsNoChange, HasNoChange, TellsBodies, CountsTurns, rises_none, counts_none}
 use Rattle.view_machine.specs.SettleStates.{all_made}
-use Rattle.view_machine.specs.ToldBodies.{told_bodies, said_bodies, said_of}
+use Rattle.body_loads.specs.ToldBodies.{told_bodies, said_bodies, said_of}
 use Rattle.view_machine.specs.TurnStates.{state_at, IsSettingOf}
 
 -- ---- turns, and then more turns

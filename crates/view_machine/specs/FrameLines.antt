@@ -25,7 +25,7 @@ use Rattle.frame_writer.specs.Frames.{frame_of as text_frame}
 use Rattle.run_model.specs.Worlds.{World, patch_count}
 use Rattle.run_model.specs.States.{State}
 use Rattle.run_model.specs.Safe.{IsSafe}
-use Rattle.run_model.specs.Lines.{DidFrame, Does, top_body, frame_of}
+use Rattle.run_model.specs.Lines.{DidFrame, Does, top_body, frame_of, frame_with}
 use Rattle.run_laws.specs.PrintedFrames.{frame_held}
 use Rattle.session_seats.specs.Orders.{FinishesRound}
 use Rattle.session_seats.specs.Seats.{SeatsSeen, IsDoneAt, told_at}
@@ -111,7 +111,7 @@ module _ (w : World) (a : State) (safe : IsSafe w a) (i : ℕ) (s : SessionState
 
 pub round_frame : (tiers : List TierState) (i : ℕ) (s : SessionState) (r : Refining) (number : ℕ) (cut : List ℕ) (tries : List Try) (patches : List ℕ) (bodies : List SeenBody) → number ≡ s.frames + 1 → cut ≡ cut_of r → tries ≡ r.tries → patches ≡ cut_patches r → bodies ≡ map (top_body tiers) (cut_patches r)
     → text_frame i number cut tries patches bodies ≡ frame_of tiers i s r
-unfolding frame_of
+unfolding frame_of frame_with
 round_frame tiers i s r number cut tries patches bodies number_is cut_is tries_are patches_are bodies_are = rw (number_is, cut_is, tries_are, patches_are, bodies_are) refl
 
 -- a frame's text that was appended to nothing

@@ -12,7 +12,7 @@ use Rattle.cache_chain.specs.ChainStates.{ChainSeen}
 use Rattle.frame_writer.specs.Frames.{triangles_in}
 use Rattle.run_model.specs.Worlds.{World}
 use Rattle.run_model.specs.States.{State}
-use Rattle.run_model.specs.Lines.{DidFrame, Does, top_body, frame_of}
+use Rattle.run_model.specs.Lines.{DidFrame, Does, top_body, frame_of, frame_with}
 use Rattle.session_seats.specs.Orders.{FinishesRound}
 use Rattle.view_machine.specs.declared.sizes.FrameSize.{FrameSize}
 use Rattle.view_machine.specs.Machines.{MachineSeen, world_of, run_state, state_in, KeepsPlace}
@@ -33,7 +33,7 @@ pub record ShowsSize (w : World) (i : ℕ) (a b : State) (size : FrameSize) : Ty
 -- the size of what a round shows
 pub round_size : (tiers : List TierState) (i : ℕ) (s : SessionState) (r : Refining) (cut patches : List ℕ) (edges : Chain) (size : FrameSize) → cut ≡ cut_of r → patches ≡ cut_patches r
     → IsNetOf (triangles_in (map (top_body tiers) patches)) edges → ((frame : Frame) → frame.cut ≡ cut → frame.patches ≡ patches → IsNetOf frame.triangles edges → HasSize frame size) → HasSize (frame_of tiers i s r) size
-unfolding frame_of
+unfolding frame_of frame_with
 round_size tiers i s r cut patches edges size cut_is patches_are net sized =
     sized (frame_of tiers i s r) (sym cut_is) (sym patches_are) (subst (λ (ps : List ℕ). IsNetOf (triangles_in (map (top_body tiers) ps)) edges) patches_are net)
 

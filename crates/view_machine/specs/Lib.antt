@@ -1,4 +1,4 @@
-pub mod ToldBodies
+pub mod WorldBodies
 pub mod TurnStates
 pub mod Stops
 pub mod SettleStates

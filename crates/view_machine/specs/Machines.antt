@@ -13,7 +13,7 @@ use Rattle.run_model.specs.Safe.{IsSafe}
 use Rattle.run_model.specs.Kept.{TakeWishes}
 use Rattle.session_seats.specs.Boards.{IsBoardFor}
 use Rattle.session_seats.specs.Seats.{SeatsSeen, AreSeated, state_of}
-use Rattle.view_machine.specs.ToldBodies.{told_bodies}
+use Rattle.body_loads.specs.ToldBodies.{told_bodies}
 
 -- a chain of tiers, the words of the patches, the sessions at their seats, the board, and the bytes of the mesh's file,
 -- where they are told

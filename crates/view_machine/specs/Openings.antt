@@ -36,7 +36,8 @@ use Rattle.session_seats.specs.Boards.{IsBoardFor}
 use Rattle.session_seats.specs.Seats.{SeatsSeen, at_seat, empty_seats, state_of}
 use Rattle.session_seats.specs.StartLaws.{none_seated}
 use Rattle.view_machine.specs.Machines.{MachineSeen, world_with, world_of, width_of, state_in, run_state, IsMachine}
-use Rattle.view_machine.specs.ToldBodies.{told_bodies, world_body}
+use Rattle.body_loads.specs.ToldBodies.{told_bodies}
+use Rattle.view_machine.specs.WorldBodies.{world_body}
 
 -- the tiers have just opened, with these budgets and this width
 pub record HaveOpened (index : IndexLists) (bytes : Option (List ℕ)) (tiers : List TierState) : Type 0 where

@@ -25,7 +25,8 @@ use Rattle.run_model.specs.Worlds.{World}
 use Rattle.run_model.specs.States.{State, board_of, moved}
 use Rattle.run_model.specs.Turning.{GivesStored, GivesBelow, TurnsTo}
 use Rattle.run_laws.specs.AnswerLaws.{IsAnswer, turns_to}
-use Rattle.view_machine.specs.ToldBodies.{told_bodies, world_body}
+use Rattle.body_loads.specs.ToldBodies.{told_bodies}
+use Rattle.view_machine.specs.WorldBodies.{world_body}
 
 -- the state of a run at a moment of its chain, beside these sessions and posted views
 abbrev pub state_at : (ℕ → Option SessionState) → (ℕ → Option Posted) → ℕ → Moment → State

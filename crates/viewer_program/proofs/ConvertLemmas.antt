@@ -15,18 +15,18 @@ use Rattle.file_convert.specs.declared.refusals.ConvertRefusal.{ConvertRefusal}
 use Rattle.file_convert.specs.declared.refusals.ConvertRefusal.TheVariants as converts
 use Rattle.file_convert.specs.Held.{lists_of, held_file, RefusesWide}
 use Rattle.file_convert.specs.Whole.{all_patches, loaded_is_file}
-use Rattle.viewer_program.specs.declared.commands.Command.{Command}
-use Rattle.viewer_program.specs.declared.commands.Command.TheVariants.{Convert}
+use Rattle.viewer_program.specs.declared.commands.FileCommand.{FileCommand}
+use Rattle.viewer_program.specs.declared.commands.FileCommand.TheVariants.{Convert}
 use Rattle.viewer_program.specs.Outputs.{StopsAfter}
 use Rattle.viewer_program.specs.Refusals.{load_status, convert_status}
 
-load_stops : (bytes : List ℕ) (file : FileLists) (index : IndexLists) (patches : List ℕ) (command : Command) (refusal : LoadRefusal) → file_in bytes ≡ Ok file → file.index ≡ index → RefusesLoad index bytes patches refusal → StopsAfter command file (load_status refusal)
+load_stops : (bytes : List ℕ) (file : FileLists) (index : IndexLists) (patches : List ℕ) (command : FileCommand) (refusal : LoadRefusal) → file_in bytes ≡ Ok file → file.index ≡ index → RefusesLoad index bytes patches refusal → StopsAfter command file (load_status refusal)
 load_stops bytes file index patches command (Changed patch fault) is of change = absurd (loads_no_fault bytes file patch fault is (subst (λ (i : IndexLists). body_at i bytes patch ≡ Some (Err fault)) (sym of) change.breaks))
 load_stops bytes file index patches command ReadFault is of change = tt
 load_stops bytes file index patches command Memory is of change = tt
 
 -- a load's refusal, which is no change
-pub told_load : (told : Option (List ℕ)) (mesh : MeshSeen) (command : Command) (refusal : LoadRefusal) → IfSome told (λ (bytes : List ℕ). RefusesLoad mesh.lists.index bytes (all_patches mesh.lists.index) refusal)
+pub told_load : (told : Option (List ℕ)) (mesh : MeshSeen) (command : FileCommand) (refusal : LoadRefusal) → IfSome told (λ (bytes : List ℕ). RefusesLoad mesh.lists.index bytes (all_patches mesh.lists.index) refusal)
     → IfSome told (λ (bytes : List ℕ). (file : FileLists) → file_in bytes ≡ Ok file → IsMeshOf file mesh → StopsAfter command file (load_status refusal))
 told_load None mesh command refusal change = tt
 told_load (Some bytes) mesh command refusal change = λ file is of. load_stops bytes file mesh.lists.index (all_patches mesh.lists.index) command refusal is of.index change

@@ -3,11 +3,11 @@ use Rattle.std.proofs.Common.{◌≡◌}
 use Rattle.text_model.specs.declared.statuses.Status.{Status}
 use Rattle.text_model.specs.declared.statuses.Status.TheVariants as statuses
 use Rattle.view_outside.specs.OnlyRead.{OnlyIf}
-use Rattle.viewer_program.specs.declared.commands.Command.{Command}
+use Rattle.viewer_program.specs.declared.commands.FileCommand.{FileCommand}
 use Rattle.viewer_program.specs.Endings.{CanStop}
 
 -- a status that stops a command is neither the sink's failure
-pub stop-no_write_fault : (fact : Type 0) (command : Command) (status : Status) → CanStop command status → OnlyIf statuses.WriteFault fact status
+pub stop-no_write_fault : (fact : Type 0) (command : FileCommand) (status : Status) → CanStop command status → OnlyIf statuses.WriteFault fact status
 stop-no_write_fault fact command statuses.Ok stop is = absurd stop
 stop-no_write_fault fact command statuses.Usage stop is = absurd stop
 stop-no_write_fault fact command (statuses.Refused refusal) stop is = absurd cc
@@ -20,7 +20,7 @@ stop-no_write_fault fact command (statuses.Changed patch fault) stop is = absurd
 stop-no_write_fault fact command (statuses.Wide patch) stop is = absurd cc
 
 -- nor one of words that are no command
-pub stop-not_usage : (command : Command) (status : Status) → CanStop command status → status ≡ statuses.Usage → ⊥
+pub stop-not_usage : (command : FileCommand) (status : Status) → CanStop command status → status ≡ statuses.Usage → ⊥
 stop-not_usage command statuses.Ok stop is = stop
 stop-not_usage command statuses.Usage stop is = stop
 stop-not_usage command (statuses.Refused refusal) stop is = cc

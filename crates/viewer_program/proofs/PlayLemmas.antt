@@ -40,7 +40,7 @@ use Rattle.view_script.specs.declared.refusals.ScriptRefusal.TheVariants as scri
 use Rattle.view_script.specs.Answers.{Refuses, IfJudged}
 use Rattle.view_script.specs.Reads.{ReadsThrough}
 use Rattle.view_machine.specs.LineCounts.{TellsBodies}
-use Rattle.view_machine.specs.ToldBodies.{lists_said, said_bodies}
+use Rattle.body_loads.specs.ToldBodies.{lists_said, said_bodies}
 use Rattle.run_laws.specs.PrintedFrames.{told_file}
 use Rattle.run_model.specs.Worlds.{World}
 use Rattle.text_model.specs.declared.statuses.Status.{Status}

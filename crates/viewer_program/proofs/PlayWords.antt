@@ -5,7 +5,7 @@ use Rattle.std.proofs.Math.ListN.{get_or-map, drop_of_length-le}
 use Rattle.std.proofs.Math.Seq.{drop-cons}
 use Rattle.std.proofs.lemmas.List.{length-map}
 use Rattle.std.proofs.lemmas.Slice.Eq.{bytes_eq-Decides}
-use Rattle.viewer_program.specs.declared.commands.Command.{Command}
+use Rattle.viewer_program.specs.declared.commands.FileCommand.{FileCommand}
 use Rattle.viewer_program.specs.Commands.{command_in, command_named}
 use Rattle.number_words.specs.Numbers.{number_in}
 use Rattle.viewer_program.specs.declared.plays.TheConstants.{GREATEST_BUDGET}
@@ -23,7 +23,7 @@ neither true b = refl
 neither false true = refl
 neither false false = refl
 
-abbrev no_known : Option Command
+abbrev no_known : Option FileCommand
 no_known = None
 
 abbrev no_strip_known : Option StripCommand
@@ -34,7 +34,7 @@ nothing true = refl
 nothing false = refl
 
 -- the word of a command is none that names no command
-is_another : (first name : List ℕ) (words : List (List ℕ)) (command : Command) (other : List ℕ) → command_named first name words ≡ Some command → command_named other name words ≡ None → bytes_eq first other ≡ false
+is_another : (first name : List ℕ) (words : List (List ℕ)) (command : FileCommand) (other : List ℕ) → command_named first name words ≡ Some command → command_named other name words ≡ None → bytes_eq first other ≡ false
 is_another first name words command other is none = by_test (bytes_eq first other) refl
   where
     by_test : (b : Bool) → bytes_eq first other ≡ b → bytes_eq first other ≡ false
@@ -44,7 +44,7 @@ is_another first name words command other is none = by_test (bytes_eq first othe
     by_test false differ = differ
 
 -- the words of a command are no words of a play
-pub no_play : (words : List (List ℕ)) (command : Command) → command_in words ≡ Some command → play_in words ≡ None
+pub no_play : (words : List (List ℕ)) (command : FileCommand) → command_in words ≡ Some command → play_in words ≡ None
 no_play [] command is = refl
 no_play (a ∷ []) command is = refl
 no_play (a ∷ b ∷ words) command is =
@@ -52,7 +52,7 @@ no_play (a ∷ b ∷ words) command is =
     ∙ ap (λ (t : Bool). if t then wide_play_with b words else no_seen) (is_another a b words command (codes "playw") is (nothing (length b == 0)))
 
 -- nor are they of a command over a strip
-pub no_strip : (words : List (List ℕ)) (command : Command) → command_in words ≡ Some command → strip_command_in words ≡ None
+pub no_strip : (words : List (List ℕ)) (command : FileCommand) → command_in words ≡ Some command → strip_command_in words ≡ None
 no_strip [] command is = refl
 no_strip (a ∷ []) command is = refl
 no_strip (a ∷ b ∷ []) command is =

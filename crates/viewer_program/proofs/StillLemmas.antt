@@ -8,7 +8,7 @@ use Rattle.view_outside.specs.Faults.{Rose}
 use Rattle.view_outside.specs.Files.{LacksName}
 use Rattle.view_outside.specs.OnlyRead.{OnlyIf}
 use Rattle.view_script.specs.Reads.{HasRead, ReadsAtMost}
-use Rattle.viewer_program.specs.declared.commands.Command.{Command}
+use Rattle.viewer_program.specs.declared.commands.FileCommand.{FileCommand}
 use Rattle.viewer_program.specs.declared.strips.StripCommand.{StripCommand}
 use Rattle.viewer_program.specs.Commands.{command_in, name_in}
 use Rattle.viewer_program.specs.Endings.{Ends, IsChange, IsQuiet}
@@ -33,7 +33,7 @@ reads_none before after same =
 
 module _ (words : List (List ℕ)) (before after : OutsideSeen) (status : Status) where
   -- a command over a file
-  pub command_still : (command : Command) → command_in words ≡ Some command → CommandEnds command (name_in words) before after status → (status ≡ statuses.Usage → ⊥) → after.source ≡ before.source → IsChange status
+  pub command_still : (command : FileCommand) → command_in words ≡ Some command → CommandEnds command (name_in words) before after status → (status ≡ statuses.Usage → ⊥) → after.source ≡ before.source → IsChange status
       → OnlyIf statuses.WriteFault (Rose before.sink.faults after.sink.faults) status → StillEnds words before after status
   command_still command is ends known unread change fault = record {
     usage = ((λ usage. absurd (known usage)), λ none. absurd (some_not_none (command_in words) command is none.0));

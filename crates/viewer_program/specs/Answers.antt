@@ -12,11 +12,11 @@ use Rattle.still_texts.specs.Shown.{IsBaseText, IsStillText}
 use Rattle.still_texts.specs.Full.{IsFullText, IsCullText}
 use Rattle.still_texts.specs.Sides.{IsSidesText, IsSidesLines}
 use Rattle.still_texts.specs.Picks.{IsPickText, IsPickLine}
-use Rattle.viewer_program.specs.declared.commands.Command.{Command}
-use Rattle.viewer_program.specs.declared.commands.Command.TheVariants.{Base, Check, Full, Convert, Cull, Sides, Pick}
+use Rattle.viewer_program.specs.declared.commands.FileCommand.{FileCommand}
+use Rattle.viewer_program.specs.declared.commands.FileCommand.TheVariants.{Base, Check, Full, Convert, Cull, Sides, Pick}
 
 -- the text that a command writes of an accepted file with this root
-abbrev pub IsTextOf : Command → FileLists → ℕ → List ℕ → Type 0
+abbrev pub IsTextOf : FileCommand → FileLists → ℕ → List ℕ → Type 0
 IsTextOf Base file root text = IsBaseText file root text
 IsTextOf Check file root text = IsAcceptedText file root text
 IsTextOf (Full view) file root text = IsFullText view file root text
@@ -40,12 +40,12 @@ IsRefusalOf bytes (File fault) = file_in bytes ≡ Err fault
 IsRefusalOf bytes (Dag fault) = (file : FileLists) × (file_in bytes ≡ Ok file) × IsMeshFault file fault
 
 -- the command asks for version 2, and the patch is the least of the file that spreads too wide for it
-abbrev pub IsWideFor : Command → FileLists → ℕ → Type 0
+abbrev pub IsWideFor : FileCommand → FileLists → ℕ → Type 0
 IsWideFor (Convert version) file patch = (version ≡ 2) × IsLeastWide file.bodies patch
 IsWideFor command file patch = ⊥
 
 -- the bytes are an accepted file with such a patch
-pub record IsWideIn (command : Command) (bytes : List ℕ) (patch : ℕ) : Type 0 where
+pub record IsWideIn (command : FileCommand) (bytes : List ℕ) (patch : ℕ) : Type 0 where
   pub file : FileLists
   pub root : ℕ
   pub read : file_in bytes ≡ Ok file
@@ -60,7 +60,7 @@ pub record IsFileText (version : ℕ) (text : List ℕ) : Type 0 where
   pub is : IsPatchFile file text
 
 -- a text of the command's kind, of whatever file
-abbrev pub IsTextOfKind : Command → List ℕ → Type 0
+abbrev pub IsTextOfKind : FileCommand → List ℕ → Type 0
 IsTextOfKind Base text = IsStillText text
 IsTextOfKind Check text = IsAcceptedLine text
 IsTextOfKind (Full view) text = IsStillText text

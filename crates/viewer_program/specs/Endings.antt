@@ -5,8 +5,8 @@ use Rattle.text_model.specs.declared.statuses.Status.{Status}
 use Rattle.text_model.specs.declared.statuses.Status.TheVariants as statuses
 use Rattle.view_outside.specs.Streams.{appended}
 use Rattle.view_outside.specs.Written.{WritesPart}
-use Rattle.viewer_program.specs.declared.commands.Command.{Command}
-use Rattle.viewer_program.specs.declared.commands.Command.TheVariants.{Base, Check, Full, Convert, Cull, Sides, Pick}
+use Rattle.viewer_program.specs.declared.commands.FileCommand.{FileCommand}
+use Rattle.viewer_program.specs.declared.commands.FileCommand.TheVariants.{Base, Check, Full, Convert, Cull, Sides, Pick}
 use Rattle.viewer_program.specs.Answers.{IsRefusalOf, IsWideIn}
 
 -- nothing was written, but where all of a text was, or a part
@@ -18,7 +18,7 @@ IsQuiet status before after = after ≡ before
 -- what a status that stops a command says of a file of these bytes: a refusal is theirs, a patch is the one that is too
 -- wide, and a failing store or want of memory says nothing. No script is read, there is no budget, and a file whose bytes
 -- are told doesn't change
-abbrev pub StopsAt : Command → List ℕ → Status → Type 0
+abbrev pub StopsAt : FileCommand → List ℕ → Status → Type 0
 StopsAt command bytes (statuses.Refused refusal) = IsRefusalOf bytes refusal
 StopsAt command bytes statuses.ReadFault = Unit {0}
 StopsAt command bytes statuses.Memory = Unit {0}
@@ -26,7 +26,7 @@ StopsAt command bytes (statuses.Wide patch) = IsWideIn command bytes patch
 StopsAt command bytes status = ⊥
 
 -- the command loads bodies again after the check
-abbrev pub LoadsAgain : Command → Type 0
+abbrev pub LoadsAgain : FileCommand → Type 0
 LoadsAgain Base = Unit {0}
 LoadsAgain Check = ⊥
 LoadsAgain (Full view) = Unit {0}
@@ -36,13 +36,13 @@ LoadsAgain (Sides plane) = ⊥
 LoadsAgain (Pick view ray) = Unit {0}
 
 -- the command converts to version 2, which not all files have
-abbrev pub AsksForVersion2 : Command → Type 0
+abbrev pub AsksForVersion2 : FileCommand → Type 0
 AsksForVersion2 (Convert version) = version ≡ 2
 AsksForVersion2 command = ⊥
 
 -- the statuses that can stop a command before anything is written, whatever the store tells: a change only where bodies
 -- are loaded again, and a patch that is too wide only where version 2 is asked for
-abbrev pub CanStop : Command → Status → Type 0
+abbrev pub CanStop : FileCommand → Status → Type 0
 CanStop command (statuses.Refused refusal) = Unit {0}
 CanStop command statuses.ReadFault = Unit {0}
 CanStop command statuses.Memory = Unit {0}

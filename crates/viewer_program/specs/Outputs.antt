@@ -8,7 +8,7 @@ use Rattle.file_model.specs.Rules.{IsPatchFile}
 use Rattle.body_loads.specs.declared.refusals.LoadRefusal.{LoadRefusal}
 use Rattle.text_model.specs.declared.statuses.Status.{Status}
 use Rattle.text_model.specs.declared.statuses.Status.TheVariants as statuses
-use Rattle.viewer_program.specs.declared.commands.Command.{Command}
+use Rattle.viewer_program.specs.declared.commands.FileCommand.{FileCommand}
 use Rattle.viewer_program.specs.declared.outputs.Output.{Output}
 use Rattle.viewer_program.specs.declared.outputs.Output.TheVariants.{Text, File}
 use Rattle.viewer_program.specs.Answers.{IsTextOf, IsWideFor}
@@ -36,13 +36,13 @@ lines_output (Err no_memory) = Err statuses.Memory
 
 -- what a status says that stops a command after the check of this file: its least wide patch is one that the command can't
 -- write, and a failing store or want of memory says nothing. A file whose bytes are told doesn't change
-abbrev pub StopsAfter : Command → FileLists → Status → Type 0
+abbrev pub StopsAfter : FileCommand → FileLists → Status → Type 0
 StopsAfter command file statuses.ReadFault = Unit {0}
 StopsAfter command file statuses.Memory = Unit {0}
 StopsAfter command file (statuses.Wide patch) = IsWideFor command file patch
 StopsAfter command file status = ⊥
 
 -- what the command writes of this file is as it should be, or the status says why there is nothing
-abbrev pub GivesOutput : Command → FileLists → ℕ → Result Output Status → Type 0
+abbrev pub GivesOutput : FileCommand → FileLists → ℕ → Result Output Status → Type 0
 GivesOutput command file root (Ok output) = IsTextOf command file root (output_text output)
 GivesOutput command file root (Err status) = StopsAfter command file status

@@ -13,7 +13,7 @@ pub use Rattle.run_laws.specs.ToldWorlds.{IsWorldOver}
 use Rattle.run_model.specs.Lines.{Did}
 use Rattle.run_model.specs.RunTexts.{StoreOutcome, IsRunText, turns_in, faults_of, bytes_from_store}
 use Rattle.view_machine.specs.RunEnds.{HaveNoChange}
-use Rattle.view_machine.specs.ToldBodies.{told_bodies}
+use Rattle.body_loads.specs.ToldBodies.{told_bodies}
 use Rattle.viewer_program.specs.Playing.{PlaySeen}
 use Rattle.viewer_program.specs.Promises.{KeepsPromises}
 

@@ -7,7 +7,7 @@ use Rattle.view_outside.specs.Faults.{Rose}
 use Rattle.view_outside.specs.Files.{HasName, LacksName}
 use Rattle.view_outside.specs.OnlyRead.{OnlyIf}
 use Rattle.view_script.specs.Reads.{ReadsAtMost}
-use Rattle.viewer_program.specs.declared.commands.Command.{Command}
+use Rattle.viewer_program.specs.declared.commands.FileCommand.{FileCommand}
 use Rattle.viewer_program.specs.declared.strips.StripCommand.{StripCommand}
 use Rattle.viewer_program.specs.Answers.{IsTextOf, IsOfAccepted, IsTextOfKind}
 use Rattle.viewer_program.specs.Commands.{command_in, name_in}
@@ -20,7 +20,7 @@ use Rattle.viewer_program.specs.Told.{named_bytes}
 use Rattle.viewer_program.specs.WideTold.{IsBehindLoads}
 
 -- a command over the file of the name
-pub record CommandEnds (command : Command) (name : List ℕ) (before after : OutsideSeen) (status : Status) : Type 0 where
+pub record CommandEnds (command : FileCommand) (name : List ℕ) (before after : OutsideSeen) (status : Status) : Type 0 where
   -- what each status means where the store tells the bytes of the file
   pub told : IfSome (named_bytes before.store.files name) (λ bytes.
       Ends (IsOfAccepted (IsTextOf command) bytes) (StopsAt command bytes) status before.sink.written

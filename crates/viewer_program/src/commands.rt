@@ -6,7 +6,7 @@ use view_planes::{HalfSpace, Planes};
 
 /// What the words ask for.
 #[derive(Drop)]
-pub enum Command {
+pub enum FileCommand {
     /// The frame of the root's patches.
     Base,
     /// The line of an accepted file.

@@ -8,7 +8,7 @@ ghost use Rattle.view_outside.specs.Files.{HasFile, file_bytes};
 ghost use Rattle.view_outside.specs.OnlyRead.{OnlyRead};
 ghost use Rattle.accepted_mesh.specs.MeshView.{IsMeshOf};
 ghost use Rattle.text_model.specs.declared.statuses.Status.TheVariants as statuses;
-ghost use Rattle.viewer_program.specs.declared.commands.Command.TheVariants.{Convert};
+ghost use Rattle.viewer_program.specs.declared.commands.FileCommand.TheVariants.{Convert};
 ghost use Rattle.viewer_program.specs.Answers.{IsTextOfKind};
 ghost use Rattle.viewer_program.specs.Endings.{CanStop, IsChange};
 ghost use Rattle.viewer_program.specs.WideTold.{IsBehindBodies};

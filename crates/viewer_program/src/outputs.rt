@@ -13,7 +13,7 @@ ghost use Rattle.viewer_program.specs.Endings.{StopsAt, CanStop, IsChange};
 ghost use Rattle.viewer_program.specs.WideTold.{IsBehindBodies, IsBehindLoads};
 ghost use Rattle.viewer_program.specs.Outputs.{output_text, IsWritable, text_output, lines_output, GivesOutput};
 
-use crate::commands::Command;
+use crate::commands::FileCommand;
 use crate::converts::convert_output;
 use crate::meshes::mesh_of;
 use crate::refusals::{status_of_check, status_of_load};
@@ -58,7 +58,7 @@ fn lines_output(made: Result<Vec<u8>, NoMemory>) -> Result<Output, Status>
 // What the command writes of the mesh. Bodies that it writes are read again.
 fn output_of<S: Store>(
     alloc: Global,
-    command: &Command,
+    command: &FileCommand,
     mesh: &Mesh,
     store: &mut S,
     file: u32,
@@ -79,20 +79,20 @@ fn output_of<S: Store>(
         (S.faults store.old) (S.faults store.new) result }
 {
     match command {
-        Command::Base => text_output(base_text(alloc, mesh, store, file)),
-        Command::Check => lines_output(accepted_text(alloc, mesh)),
-        Command::Full(view) => text_output(full_text(alloc, mesh, view, store, file)),
-        Command::Convert(version) => convert_output(alloc, *version, mesh, store, file),
-        Command::Cull(planes) => text_output(cull_text(alloc, mesh, planes, store, file)),
-        Command::Sides(plane) => lines_output(sides_text(alloc, mesh, plane)),
-        Command::Pick(view, ray) => text_output(pick_text(alloc, mesh, view, ray, store, file)),
+        FileCommand::Base => text_output(base_text(alloc, mesh, store, file)),
+        FileCommand::Check => lines_output(accepted_text(alloc, mesh)),
+        FileCommand::Full(view) => text_output(full_text(alloc, mesh, view, store, file)),
+        FileCommand::Convert(version) => convert_output(alloc, *version, mesh, store, file),
+        FileCommand::Cull(planes) => text_output(cull_text(alloc, mesh, planes, store, file)),
+        FileCommand::Sides(plane) => lines_output(sides_text(alloc, mesh, plane)),
+        FileCommand::Pick(view, ray) => text_output(pick_text(alloc, mesh, view, ray, store, file)),
     }
 }
 
 /// What the command writes of the file, or the status that stops it. The file is checked first.
 pub fn command_output<S: Store>(
     alloc: Global,
-    command: &Command,
+    command: &FileCommand,
     store: &mut S,
     file: u32,
 ) -> Result<Output, Status>

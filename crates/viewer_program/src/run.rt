@@ -16,7 +16,7 @@ ghost use Rattle.viewer_program.specs.Strips.{strip_command_in, IsStripOutput, I
 ghost use Rattle.viewer_program.specs.Told.{named_bytes};
 ghost use Rattle.viewer_program.specs.WideTold.{IsBehindLoads};
 
-use crate::commands::{Command, command_of, file_name};
+use crate::commands::{FileCommand, command_of, file_name};
 use crate::outputs::{Output, command_output};
 use crate::playing::run_play;
 use crate::plays::play_of;
@@ -42,7 +42,7 @@ fn write_output<O: Sink>(output: &Output, sink: &mut O) -> Result<(), view_outsi
 // Writes what the command asks for of the file of this name.
 fn run_command<S: Store, O: Sink>(
     alloc: Global,
-    command: &Command,
+    command: &FileCommand,
     name: &str,
     store: &mut S,
     sink: &mut O,

@@ -1,6 +1,6 @@
 //! Chains whose turns are known, over the square and the strip of two columns.
 
-use super::scenes::{Content, Deed, Play, Scene, expect_play, view};
+use super::scenes::{Content, Deed, Course, Scene, expect_play, view};
 use cache_chain::{Turn, TurnLine};
 use round_model::View;
 use sample_files::{square, strip};
@@ -39,7 +39,7 @@ fn a_wished_patch_comes(rt: HostRuntime) -> Result<(), Fail> {
         budgets: &[144],
         width: 1,
     };
-    let play = Play {
+    let play = Course {
         deeds: &[Deed::Post(1, square_view()?), Deed::Settle],
         turns: &[
             top(Turn::Reserve(1)),
@@ -61,7 +61,7 @@ fn a_patch_without_room_never_comes(rt: HostRuntime) -> Result<(), Fail> {
         budgets: &[143],
         width: 1,
     };
-    let play = Play {
+    let play = Course {
         deeds: &[Deed::Post(1, square_view()?), Deed::Settle],
         turns: &[top(Turn::Idle)],
         contents: &[at_rest(60, 1)],
@@ -79,7 +79,7 @@ fn a_patch_that_failed_comes_by_new_wishes(rt: HostRuntime) -> Result<(), Fail> 
         width: 1,
     };
     let posts = Deed::Post(1, square_view()?);
-    let play = Play {
+    let play = Course {
         deeds: &[posts, Deed::Settle, posts, Deed::Settle],
         turns: &[
             top(Turn::Reserve(1)),
@@ -105,7 +105,7 @@ fn a_fetch_is_lost(rt: HostRuntime) -> Result<(), Fail> {
         budgets: &[240, 60],
         width: 1,
     };
-    let play = Play {
+    let play = Course {
         deeds: &[
             Deed::Post(1, view([12, 2, 0], 3, 100, 1000)?),
             Deed::Turn(1),
@@ -140,7 +140,7 @@ fn two_patches_come_at_once(rt: HostRuntime) -> Result<(), Fail> {
         budgets: &[240],
         width: 2,
     };
-    let play = Play {
+    let play = Course {
         deeds: &[
             Deed::Post(1, view([4, 2, 107], 100, 10, 1000)?),
             Deed::Turn(0),
@@ -174,7 +174,7 @@ fn two_patches_are_coming(rt: HostRuntime) -> Result<(), Fail> {
         budgets: &[240],
         width: 2,
     };
-    let play = Play {
+    let play = Course {
         deeds: &[
             Deed::Post(1, view([4, 2, 107], 100, 10, 1000)?),
             Deed::Turn(0),

@@ -148,7 +148,7 @@ pub struct Scene<'a> {
 
 /// What is done with a chain, the turns that are to be made, and what each tier is to have at the end.
 #[derive(Clone, Copy)]
-pub struct Play<'a> {
+pub struct Course<'a> {
     pub deeds: &'a [Deed],
     pub turns: &'a [TurnLine],
     pub contents: &'a [Content],
@@ -197,7 +197,7 @@ fn expect_turns<S: Store>(
     chain: &mut TierChain<'_, S>,
     words: &mut PlainTokens,
     board: &mut WishBoard,
-    play: &Play<'_>,
+    play: &Course<'_>,
 ) -> Result<(), Fail>
     requires { IsReady mesh.now chain.old words.old board.old }
 {
@@ -213,7 +213,7 @@ pub fn expect_play(
     rt: &impl Abort,
     alloc: Global,
     scene: &Scene<'_>,
-    play: &Play<'_>,
+    play: &Course<'_>,
 ) -> Result<(), Fail>
     requires some_budget { 1 ≤ length scene.now.budgets.now }
     requires few { length scene.now.budgets.now ≤ 4 }

@@ -3,14 +3,14 @@
 ghost use Rattle.std.specs.Prelude.{◌≡◌, map, string_bytes, IfSome};
 ghost use Rattle.viewer_program.specs.Commands.{command_in, command_named, command_alone, convert_in, full_in, cull_in, sides_in, pick_from, pick_in, name_in, IsKnown};
 
-use super::Command;
+use super::FileCommand;
 use super::spelt::{read_half_space, read_planes, read_point, read_ray, read_version, read_view};
 use ray_pick::Ray;
 use round_model::{EYE_REACH, View};
 
 /// The command that the words name; none where they are no command. They don't include the
 /// program's name.
-pub fn command_of(words: &[String]) -> Option<Command>
+pub fn command_of(words: &[String]) -> Option<FileCommand>
     ensures value { result ≡ command_in (map string_bytes words.now) }
     ensures known { IfSome result IsKnown }
 {
@@ -21,7 +21,7 @@ pub fn command_of(words: &[String]) -> Option<Command>
 }
 
 // The command of a word, a file's name and the words behind it.
-fn command_named(first: &str, name: &str, words: &[String]) -> Option<Command>
+fn command_named(first: &str, name: &str, words: &[String]) -> Option<FileCommand>
     ensures value { result ≡ command_named first.now name.now (map string_bytes words.now) }
     ensures known { IfSome result IsKnown }
 {
@@ -29,8 +29,8 @@ fn command_named(first: &str, name: &str, words: &[String]) -> Option<Command>
         return None;
     }
     match first {
-        "base" => command_alone(Command::Base, words),
-        "check" => command_alone(Command::Check, words),
+        "base" => command_alone(FileCommand::Base, words),
+        "check" => command_alone(FileCommand::Check, words),
         "full" => read_full(words),
         "convert" => read_convert(words),
         "cull" => read_cull(words),
@@ -41,7 +41,7 @@ fn command_named(first: &str, name: &str, words: &[String]) -> Option<Command>
 }
 
 // The command, where there is no word.
-fn command_alone(command: Command, words: &[String]) -> Option<Command>
+fn command_alone(command: FileCommand, words: &[String]) -> Option<FileCommand>
     requires { IsKnown command }
     ensures value { result ≡ command_alone command (map string_bytes words.now) }
     ensures known { IfSome result IsKnown }
@@ -50,7 +50,7 @@ fn command_alone(command: Command, words: &[String]) -> Option<Command>
 }
 
 // The view that the words spell.
-fn read_full(words: &[String]) -> Option<Command>
+fn read_full(words: &[String]) -> Option<FileCommand>
     ensures value { result ≡ full_in (map string_bytes words.now) }
     ensures known { IfSome result IsKnown }
 {
@@ -58,25 +58,25 @@ fn read_full(words: &[String]) -> Option<Command>
         [x, y, z, focal, threshold, limit] => {
             let eye = read_point(EYE_REACH, x.as_str(), y.as_str(), z.as_str());
             let view = read_view(eye, focal.as_str(), threshold.as_str(), limit.as_str())?;
-            Some(Command::Full(view))
+            Some(FileCommand::Full(view))
         }
         _ => None,
     }
 }
 
 // The version that the word spells.
-fn read_convert(words: &[String]) -> Option<Command>
+fn read_convert(words: &[String]) -> Option<FileCommand>
     ensures value { result ≡ convert_in (map string_bytes words.now) }
     ensures known { IfSome result IsKnown }
 {
     match words {
-        [version] => Some(Command::Convert(read_version(version.as_str())?)),
+        [version] => Some(FileCommand::Convert(read_version(version.as_str())?)),
         _ => None,
     }
 }
 
 // The view and the half-spaces that the words spell.
-fn read_cull(words: &[String]) -> Option<Command>
+fn read_cull(words: &[String]) -> Option<FileCommand>
     ensures value { result ≡ cull_in (map string_bytes words.now) }
     ensures known { IfSome result IsKnown }
 {
@@ -84,38 +84,38 @@ fn read_cull(words: &[String]) -> Option<Command>
         [x, y, z, focal, threshold, limit, numbers @ ..] => {
             let eye = read_point(EYE_REACH, x.as_str(), y.as_str(), z.as_str());
             let view = read_view(eye, focal.as_str(), threshold.as_str(), limit.as_str());
-            Some(Command::Cull(read_planes(view, numbers)?))
+            Some(FileCommand::Cull(read_planes(view, numbers)?))
         }
         _ => None,
     }
 }
 
 // The half-space that the words spell.
-fn read_sides(words: &[String]) -> Option<Command>
+fn read_sides(words: &[String]) -> Option<FileCommand>
     ensures value { result ≡ sides_in (map string_bytes words.now) }
     ensures known { IfSome result IsKnown }
 {
     match words {
         [a, b, c, d] => {
             let plane = read_half_space(a.as_str(), b.as_str(), c.as_str(), d.as_str())?;
-            Some(Command::Sides(plane))
+            Some(FileCommand::Sides(plane))
         }
         _ => None,
     }
 }
 
 // The command, where both are there.
-fn pick_of(view: Option<View>, ray: Option<Ray>) -> Option<Command>
+fn pick_of(view: Option<View>, ray: Option<Ray>) -> Option<FileCommand>
     ensures value { result ≡ pick_from view ray }
     ensures known { IfSome result IsKnown }
 {
     let view = view?;
     let ray = ray?;
-    Some(Command::Pick(view, ray))
+    Some(FileCommand::Pick(view, ray))
 }
 
 // The view and the ray that the words spell.
-fn read_pick(words: &[String]) -> Option<Command>
+fn read_pick(words: &[String]) -> Option<FileCommand>
     ensures value { result ≡ pick_in (map string_bytes words.now) }
     ensures known { IfSome result IsKnown }
 {

@@ -4,7 +4,7 @@ use Rattle.file_model.specs.declared.fields.PatchField.{PatchField}
 use Rattle.std.specs.List.{slice_get}
 use Rattle.std.proofs.lemmas.List.{length-replicate, length-set, length-map, length_push}
 use Rattle.std.proofs.lemmas.List.Elements.{All-append}
-use Rattle.mesh_model.specs.declared.sides.Side.TheVariants.{Outgoing}
+use Rattle.mesh_model.specs.declared.sides.NodeSide.TheVariants.{Outgoing}
 use Rattle.mesh_graph.specs.Sides.{patches_at}
 use Rattle.mesh_graph.specs.Levels.{head_of, levels_missing, HasOpenParent, AreWaiting, IsNextLevel}
 use Rattle.mesh_graph.proofs.LevelLaws.{levels_none, waiting_all, levels_more, missing_set, waiting_less, waiting_more, ungrounded}

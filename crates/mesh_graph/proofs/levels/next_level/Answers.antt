@@ -1,6 +1,6 @@
 use Rattle.std.proofs.Common.{◌≡◌, get_or}
 use Rattle.std.proofs.lemmas.Option.{slice_get-get_or}
-use Rattle.mesh_model.specs.declared.sides.Side.TheVariants.{Incoming}
+use Rattle.mesh_model.specs.declared.sides.NodeSide.TheVariants.{Incoming}
 use Rattle.mesh_graph.specs.Sides.{patches_at}
 use Rattle.mesh_graph.proofs.ArcLaws.{list_is, list_in_range, open_parent, next_found, among_equal, empty_at}
 use Rattle.mesh_graph.proofs.levels.next_level.Goals as goal

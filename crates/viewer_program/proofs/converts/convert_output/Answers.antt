@@ -1,7 +1,7 @@
 -- All bodies are loaded again, and make the file in another version.
 use Rattle.std.proofs.Common.{map}
 use Rattle.std.specs.Arc.{arc_value}
-use Rattle.viewer_program.specs.declared.commands.Command.TheVariants.{Convert}
+use Rattle.viewer_program.specs.declared.commands.FileCommand.TheVariants.{Convert}
 use Rattle.viewer_program.proofs.ConvertLemmas.{told_load, told_parts, told_wide}
 use Rattle.viewer_program.proofs.converts.convert_output.Goals as goal
 

@@ -1,7 +1,7 @@
 -- The base and the nodes on the patch's two sides take the body.
 use Rattle.std.proofs.Common.{◌≡◌, ◌∙◌, sym, ap, arith, subst}
 use Rattle.std.specs.Prelude.{slice_get}
-use Rattle.mesh_model.specs.declared.sides.Side.TheVariants.{Incoming, Outgoing}
+use Rattle.mesh_model.specs.declared.sides.NodeSide.TheVariants.{Incoming, Outgoing}
 use Rattle.dag_check.specs.NodeSums.{taken_both, one_more}
 use Rattle.dag_check.specs.AllNodeSums.{all_sums_of, AreAllSums}
 use Rattle.dag_check.specs.Checkers.{CheckerSeen, Follows}

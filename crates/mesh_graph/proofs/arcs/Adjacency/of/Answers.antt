@@ -2,14 +2,14 @@ use Rattle.std.proofs.Common.{◌≡◌, ℕ, ◌<◌, ◌+◌, List, ◌++◌, 
 use Rattle.std.proofs.lemmas.List.{length_push}
 use Rattle.std.proofs.lemmas.Option.{slice_get-get_or}
 use Rattle.file_model.specs.declared.fields.PatchField.{PatchField}
-use Rattle.mesh_model.specs.declared.sides.Side.{Side}
+use Rattle.mesh_model.specs.declared.sides.NodeSide.{NodeSide}
 use Rattle.mesh_graph.specs.Sides.{patches_at}
 use Rattle.mesh_graph.specs.Chains.{IsChain, AreLinked}
 use Rattle.mesh_graph.proofs.ChainLaws.{chain_is}
 use Rattle.mesh_graph.proofs.SpanLaws.{spans_more, arcs_from_spans}
 use Rattle.mesh_graph.proofs.arcs.Adjacency.of.Goals as goal
 
-chain_here : (side : Side) (fields : List PatchField) (first next seen links : List (Option ℕ)) (v : ℕ) → seen ≡ first → links ≡ next → AreLinked side fields 0 first next → v < length seen → IsChain links (get_or seen v None) (patches_at side fields v)
+chain_here : (side : NodeSide) (fields : List PatchField) (first next seen links : List (Option ℕ)) (v : ℕ) → seen ≡ first → links ≡ next → AreLinked side fields 0 first next → v < length seen → IsChain links (get_or seen v None) (patches_at side fields v)
 chain_here side fields first next seen links v seen_is links_is linked v_in =
     let v_first : v < length first = subst (λ (l : List (Option ℕ)). v < length l) seen_is v_in in
     rw (seen_is, links_is) (chain_is side fields first next v (get_or first v None) linked v_first (slice_get-get_or first v None v_first))

@@ -1,18 +1,14 @@
--- The bodies that a file says, as those of a run's world.
+-- The bodies that a file says, by the numbers of their patches.
 use Rattle.std.proofs.Common.{◌≡◌, ℕ, zero, suc, ◌+◌, ◌<◌, List, [], ◌∷◌, length, map, get_or, Option, Some, None, Result, Ok, Err, refl, sym, ap, subst, ◌∙◌, arith}
-use Rattle.std.specs.Prelude.{slice_get, option_map, IfSome}
+use Rattle.std.specs.Prelude.{slice_get, option_map}
 use Rattle.std.specs.List.{range_with_len}
 use Rattle.std.proofs.lemmas.List.FromFn.{get_or-map-range_with_len, length-map-range_with_len}
 use Rattle.std.proofs.lemmas.Option.{slice_get_within}
 use Rattle.file_model.specs.declared.faults.FileFault.{FileFault}
 use Rattle.file_model.specs.declared.fields.PatchField.{PatchField}
-use Rattle.file_model.specs.Lists.{BodyLists, IndexLists, SeenBody, no_body}
+use Rattle.file_model.specs.Lists.{BodyLists, IndexLists, no_body}
 use Rattle.file_model.specs.Reading.{body_of_file, body_offset}
-use Rattle.body_loads.specs.Loads.{body_at, read_as}
-use Rattle.tier_model.specs.Tiers.{IsBodyFor, sizes_of}
-use Rattle.cache_chain.specs.ChainStates.{IsFileBody}
-use Rattle.run_model.specs.Worlds.{World}
-use Rattle.run_model.specs.Worlds.{IsFileBody as IsWorldBody}
+use Rattle.body_loads.specs.Loads.{body_at}
 
 -- the lists that the bytes say, and none where they say no body
 abbrev pub lists_said : Option (Result BodyLists FileFault) → BodyLists
@@ -55,15 +51,3 @@ said_of index bytes p is said =
     at_number (length index.fields) p (λ q. lists_said (body_at index bytes q)) 0 (patch_within index bytes p is said)
     ∙ ap (λ (q : ℕ). Some (lists_said (body_at index bytes q))) (zero_plus p)
     ∙ ap (λ (said : Option (Result BodyLists FileFault)). Some (lists_said said)) said
-
-told_at : (index : IndexLists) (bytes : Option (List ℕ)) (p : ℕ) (body : SeenBody) → IfSome bytes (λ bs. body_at index bs p ≡ read_as body) → IfSome (told_bodies index bytes) (λ bodies. slice_get bodies p ≡ Some body.lists)
-told_at index None p body told = tt
-told_at index (Some bytes) p body told = said_of index bytes p (Ok body.lists) told
-
--- a body of the file is one of the world's
-pub world_body : (w : World) (bytes : Option (List ℕ)) (p : ℕ) (body : SeenBody) → w.bodies ≡ told_bodies w.mesh.index bytes → IsBodyFor (sizes_of w.mesh.index) p body → IsFileBody w.mesh.index bytes p body → IsWorldBody w p body
-world_body w bytes p body same for is = record {
-  of_patch = for;
-  version = is.right.version;
-  told = subst (λ (told : Option (List BodyLists)). IfSome told (λ bodies. slice_get bodies p ≡ Some body.lists)) (sym same) (told_at w.mesh.index bytes p body is.told);
-}
