@@ -8,7 +8,7 @@ use Rattle.tier_model.specs.Tiers.{TierState}
 use Rattle.tier_model.specs.Chains.{told_at, opened_tiers, opened}
 use Rattle.detail_laws.specs.Needs.{KeepsBase}
 use Rattle.detail_laws.specs.BaseLaws.{base-opened, base-turned}
-use Rattle.run_model.specs.Worlds.{World, IsWorld, HoldsBase}
+use Rattle.run_model.specs.Worlds.{World, IsWorld}
 use Rattle.run_model.specs.States.{State, board_of, seated, posting, moved, opening}
 use Rattle.run_model.specs.Turning.{TurnsTo}
 use Rattle.run_model.specs.Events.{Happens, Steps, Turns, Frees, Opens, Views, TakesOff, Prints, Ends, Reaches, Stays, Then}
@@ -16,11 +16,10 @@ use Rattle.run_model.specs.Safe.{IsSafe}
 use Rattle.run_laws.specs.Sound.{IsSound, safe_sound}
 use Rattle.run_laws.specs.TurnLaws.{each_set_tier, is_turn}
 use Rattle.run_laws.specs.SafeLaws.{event_keeps_safe}
-use Rattle.run_laws.specs.LineLaws.{runs_reach}
-use Rattle.run_laws.specs.RunLaws.{does_keeps_safe, opened_is_safe}
+use Rattle.run_laws.specs.LineLaws.{does_reaches}
 use Rattle.run_model.specs.Kept.{IsKept}
-use Rattle.run_laws.specs.KeptLaws.{opening_kept, does_kept}
-use Rattle.run_model.specs.Lines.{Did, Runs, NoLine, OneLine}
+use Rattle.run_laws.specs.KeptLaws.{opening_kept}
+use Rattle.run_model.specs.Lines.{Did, Does}
 use Rattle.run_model.specs.RunTexts.{IsOpening}
 use Rattle.bench_laws.specs.Settlings.{KeepsBases}
 
@@ -56,18 +55,16 @@ opening_base : (w : World) (body : ℕ → SeenBody) → KeepsBases (opening w b
 unfolding opening opened
 opening_base w body k t at = opened_base w.mesh.index body w.budgets w.width k t at
 
--- ---- what holds behind the lines of a run
+-- ---- what the lines of a run keep
 
-runs_kept : (w : World) (a b : State) (orders : List Order) (dids : List Did) → IsWorld w → IsSafe w a → Runs w a orders dids b → IsKept w a → IsKept w b
-runs_kept w a b _ _ world safe NoLine kept = kept
-runs_kept w a c _ _ world safe (OneLine {b = b} {order = order} {orders = orders} {did = did} {dids = dids} does rest) kept =
-    runs_kept w b c orders dids world (does_keeps_safe w a b order did world safe does) rest (does_kept w a b order did world safe does kept)
+pub does_keeps_base : (w : World) (a b : State) (order : Order) (did : Did) → IsWorld w → IsSafe w a → Does w a order did b
+    → KeepsBases a → KeepsBases b
+does_keeps_base w a b order did world safe does keeps = events_base w a b world safe (does_reaches w a b order did does) keeps
 
-pub runs_keep_base : (w : World) (first a : State) (orders : List Order) (dids : List Did) → IsWorld w → HoldsBase w → IsOpening w first → Runs w first orders dids a → KeepsBases a
-runs_keep_base w first a orders dids world holds opens runs =
-    events_base w first a world (opened_is_safe w first world holds opens) (runs_reach w first a orders dids runs)
-    (subst KeepsBases (sym opens.is) (opening_base w opens.body))
+-- ---- what the opening keeps
 
-pub runs_keep_kept : (w : World) (first a : State) (orders : List Order) (dids : List Did) → IsWorld w → HoldsBase w → IsOpening w first → Runs w first orders dids a → IsKept w a
-runs_keep_kept w first a orders dids world holds opens runs =
-    runs_kept w first a orders dids world (opened_is_safe w first world holds opens) runs (subst (IsKept w) (sym opens.is) (opening_kept w opens.body))
+pub opening_keeps_base : (w : World) (first : State) → IsOpening w first → KeepsBases first
+opening_keeps_base w first opens = subst KeepsBases (sym opens.is) (opening_base w opens.body)
+
+pub opening_keeps_kept : (w : World) (first : State) → IsOpening w first → IsKept w first
+opening_keeps_kept w first opens = subst (IsKept w) (sym opens.is) (opening_kept w opens.body)

@@ -4,6 +4,7 @@ pub mod Faultless
 pub mod BaseKept
 pub mod SettlingRuns
 pub mod SettledFrames
+pub mod DetailAlong
 pub mod BenchRuns
 pub mod StripViews
 pub mod BenchOpening

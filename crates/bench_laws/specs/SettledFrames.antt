@@ -16,7 +16,6 @@ use Rattle.round_model.specs.Views.{ViewSeen, rules_of, view_rules}
 use Rattle.round_laws.specs.Among.{is_among}
 use Rattle.round_laws.specs.Cuts.{round_as_many}
 use Rattle.round_laws.specs.Parents.{FallsAlong, falls_from_eye}
-use Rattle.script_model.specs.declared.orders.Order.{Order}
 use Rattle.script_model.specs.declared.orders.Order.TheVariants as orders
 use Rattle.session_model.specs.Sessions.{SessionState}
 use Rattle.session_model.specs.DoneRounds.{HasDone}
@@ -33,17 +32,15 @@ use Rattle.tier_model.specs.Settling.{Settles}
 use Rattle.detail_laws.specs.Needs.{IsTierReady, AreReady}
 use Rattle.detail_laws.specs.Wanted.{AreAnsweredBy, IsPosted, SettlesWell, IsRoundOf}
 use Rattle.detail_laws.specs.Reached.{reached_detail}
-use Rattle.run_model.specs.Worlds.{World, is_base, IsWorld, HoldsBase}
+use Rattle.run_model.specs.Worlds.{World, is_base, IsWorld}
 use Rattle.run_model.specs.States.{State, board_of, posted_views, posted_by}
 use Rattle.run_model.specs.Safe.{IsSafe}
 use Rattle.run_laws.specs.Sound.{sound_safe, safe_sound}
-use Rattle.run_laws.specs.RunLaws.{runs_are_safe}
 use Rattle.run_model.specs.Kept.{seat_view, IsKept}
-use Rattle.run_model.specs.Lines.{Did, DidFrame, DidTurns, frame_of, frame_with, SettlesTo, Does, DoesFrame, DoesSettle, Runs}
-use Rattle.run_model.specs.RunTexts.{turn_outcomes, IsOpening}
+use Rattle.run_model.specs.Lines.{DidFrame, DidTurns, frame_of, frame_with, SettlesTo, Does, DoesFrame, DoesSettle}
+use Rattle.run_model.specs.RunTexts.{turn_outcomes}
 use Rattle.run_laws.specs.PrintedFrames.{IsTold, frame_shows}
-use Rattle.bench_laws.specs.Settlings.{SettlesBy, PrintsBy, NeverFails, in_use, was_passed, passed_or_used, KeepsBases, IsReadyToSettle, IsReadyToShow, ShowsWanted}
-use Rattle.bench_laws.specs.BaseKept.{runs_keep_base, runs_keep_kept}
+use Rattle.bench_laws.specs.Settlings.{NeverFails, in_use, was_passed, passed_or_used, KeepsBases, IsReadyToSettle, IsReadyToShow, ShowsWanted}
 use Rattle.bench_laws.specs.SettlingRuns.{HasSettled, has_settled}
 use Rattle.bench_laws.specs.FinishedTries.{finished_answered}
 
@@ -233,10 +230,3 @@ module _ (w : World) (world : IsWorld w) (a : State) (safe : IsSafe w a) (kept :
           let same : line.s ≡ show.session = same_Some line.s show.session (sym line.at ∙ ap (λ (sessions : ℕ → Option SessionState). sessions i) after.sessions ∙ show.at) in
           subst (ShowsWanted w bodies view) line.is
           (frame_wanted line.t line.tries line.done (subst (λ (s : SessionState). Finishes w.mesh true b.chain.epochs s line.tries line.t) same line.finishes))
-
--- behind the lines of a run and a settling, the session's next frame shows what its view wants
-pub settling_shows : (w : World) (bodies : List BodyLists) → IsTold w bodies → IsWorld w → HoldsBase w → (first a b c : State) (lines : List Order) (dids : List Did) → IsOpening w first → Runs w first lines dids a → IsReadyToSettle w a → (i : ℕ) (view : ViewSeen) → IsReadyToShow w a i view
-    → (log : List (ℕ × Turn)) → SettlesBy w a log b → NeverFails (turn_outcomes w log) → (frame : Frame) → PrintsBy w b i frame c → ShowsWanted w bodies view frame
-settling_shows w bodies is_told world holds first a b c lines dids opens runs ready i view show log settles never frame prints =
-    shows_wanted w world a (runs_are_safe w first a lines dids world holds opens runs) (runs_keep_kept w first a lines dids world holds opens runs) (runs_keep_base w first a lines dids world holds opens runs) ready i view show bodies is_told
-    b log (settle_line w a b log settles) never frame (frame_line w b i frame c prints)

@@ -13,7 +13,6 @@ use Rattle.session_model.specs.SessionStates.{unprinted_round}
 use Rattle.text_model.specs.FrameText.{Frame}
 use Rattle.token_words.specs.declared.keeping.TheConstants.{LAST_EPOCH}
 use Rattle.token_words.specs.Sessions.{session_count}
-use Rattle.tier_model.specs.declared.turns.Turn.{Turn}
 use Rattle.tier_model.specs.Places.{is_marked}
 use Rattle.tier_model.specs.Tiers.{TierState}
 use Rattle.tier_model.specs.Chains.{is_top}
@@ -21,17 +20,8 @@ use Rattle.detail_laws.specs.Needs.{KeepsBase, needed_bytes}
 use Rattle.round_laws.specs.Wanted.{FitsWanted}
 use Rattle.run_model.specs.Worlds.{World, patch_count}
 use Rattle.run_model.specs.States.{State, board_of}
-use Rattle.run_model.specs.Lines.{DidTurns, DidFrame, Does}
 use Rattle.run_model.specs.RunTexts.{StoreOutcome, GaveBody}
 use Rattle.run_laws.specs.PrintedFrames.{told_file, ShowsRound}
-
--- all tiers settle, in these turns
-abbrev pub SettlesBy : World → State → List (ℕ × Turn) → State → Type 0
-SettlesBy w a log b = Does w a orders.Settle (DidTurns log) b
-
--- the session prints this frame
-abbrev pub PrintsBy : World → State → ℕ → Frame → State → Type 0
-PrintsBy w a i frame b = Does w a (orders.Frame i) (DidFrame frame) b
 
 -- the store gave a body at each fetch
 abbrev pub NeverFails : List StoreOutcome → Type 0

@@ -18,7 +18,6 @@ ghost use Rattle.session_model.specs.DoneRounds.{HasDone};
 ghost use Rattle.session_model.specs.Finishes.{Finishes};
 ghost use Rattle.strip_laws.specs.declared.limits.TheConstants.{MOST_COLUMNS};
 ghost use Rattle.text_model.specs.BenchText.{BenchCounts, bench_text};
-ghost use Rattle.text_model.specs.FrameText.{Frame};
 ghost use Rattle.token_words.specs.Sessions.{session_count};
 ghost use Rattle.tier_model.specs.declared.turns.Turn.{Turn};
 ghost use Rattle.round_laws.specs.Wanted.{FitsWanted};
@@ -29,8 +28,9 @@ ghost use Rattle.run_laws.specs.Sound.{IsSound};
 ghost use Rattle.run_model.specs.Lines.{Did, DidOpen, DidView, SettlesTo, Runs};
 ghost use Rattle.run_model.specs.RunTexts.{turn_outcomes, turns_in, store_outcomes, IsOpening};
 ghost use Rattle.run_laws.specs.PrintedFrames.{IsTold};
-ghost use Rattle.bench_laws.specs.Settlings.{SettlesBy, PrintsBy, NeverFails, IsReadyToSettle, IsReadyToShow, ShowsWanted};
+ghost use Rattle.bench_laws.specs.Settlings.{NeverFails};
 ghost use Rattle.bench_laws.specs.Faultless.{AreFaultless};
+ghost use Rattle.bench_laws.specs.DetailAlong.{DetailAlong};
 ghost use Rattle.bench_laws.specs.SettlingRuns.{HasSettled};
 ghost use Rattle.bench_laws.specs.StripViews.{bench_rules};
 ghost use Rattle.bench_laws.specs.BenchRuns.{first_orders, bench_counts, IsBenchWorld, IsReadyToBench, IsBenchRun, ComesTo, AreBenchCounts, IsBenchText};
@@ -62,16 +62,13 @@ pub fn a_run_without_faults_has_a_store_that_never_fails()
         → NeverFails (store_outcomes w dids) }
 {}
 
-/// Behind the lines of a run, where the tiers have room for all that is wished, passed over or in use: a settling
-/// over a store that never fails, and then the next frame of a session with a view that fits, whose cut is exactly
-/// the root and the nodes, other than root and sinks, that the view wants.
+/// Along a run from its opening on: where the tiers have room for all that is wished, passed over or in use, behind a
+/// settling over a store that never fails, the next line's frame, of a session with a view that fits, has a cut of
+/// exactly the root and the nodes, other than root and sinks, that the view wants.
 pub fn a_frame_behind_a_settling_shows_what_is_wanted()
     ensures { (w : World) (bodies : List BodyLists) → IsTold w bodies → IsWorld w → HoldsBase w
-        → (first a b c : State) (lines : List Order) (dids : List Did) → IsOpening w first
-        → Runs w first lines dids a → IsReadyToSettle w a → (i : ℕ) (view : ViewSeen)
-        → IsReadyToShow w a i view → (log : List (ℕ × Turn)) → SettlesBy w a log b
-        → NeverFails (turn_outcomes w log) → (frame : Frame) → PrintsBy w b i frame c
-        → ShowsWanted w bodies view frame }
+        → (first last : State) (lines : List Order) (dids : List Did) → IsOpening w first
+        → (runs : Runs w first lines dids last) → DetailAlong w bodies first last lines dids runs }
 {}
 
 /// The view of a bench run wants every node of the strip but the sink, and each frame is within its limit.

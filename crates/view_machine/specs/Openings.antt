@@ -57,9 +57,10 @@ pub record BeginsOver (mesh : MeshLists) (words : PlainTokens) (seats : SeatsSee
 abbrev pub world_for : MeshLists → Option (List ℕ) → List ℕ → ℕ → World
 world_for mesh bytes budgets width = record { mesh = mesh; bodies = told_bodies mesh.index bytes; budgets = budgets; width = width }
 
--- a run opens here, over the mesh and its file, in a safe state
+-- a run opens here, over the mesh and its file, in a safe state of a world in which the base fits
 pub record OpensOver {S : Type 0} (over : MeshSeen) (number : ℕ) (told : Option (List ℕ)) (m : MachineSeen S) : Type 0 where
   pub world : IsWorld (world_of m)
+  pub holds : HoldsBase (world_of m)
   pub safe : IsSafe (world_of m) (run_state m)
   pub opening : IsOpening (world_of m) (run_state m)
   pub closed : m.seats ≡ empty_seats over.lists
@@ -145,6 +146,7 @@ board_for mesh = record { fits = fits_empty mesh; many = length-replicate {A = O
 -- the run opens here, in a world, and the tiers have taken the board's wishes
 record OpensIn (w : World) (a : State) : Type 0 where
   world : IsWorld w
+  holds : HoldsBase w
   safe : IsSafe w a
   take : TakeWishes w a
   opening : IsOpening w a
@@ -152,6 +154,7 @@ record OpensIn (w : World) (a : State) : Type 0 where
 -- the tiers, with these words, closed seats and a blank board, are a machine, and its run opens
 pub record OpensMachine (mesh : MeshLists) (bytes : Option (List ℕ)) (tiers : List TierState) (words : List Entry) (seats : SeatsSeen) (board : BoardSeen) : Type 0 where
   pub is : IsMachine mesh bytes tiers words seats board
+  pub holds : HoldsBase (world_with mesh bytes tiers)
   pub opening : IsOpening (world_with mesh bytes tiers) (state_in tiers words seats board)
 
 module _ (mesh : MeshLists) (bytes : Option (List ℕ)) (tiers : List TierState) (tokens : PlainTokens) (facts : IsMesh mesh) (start : IsStart (length mesh.index.fields) (outgoing mesh.index.fields mesh.root) tokens) (are : AreTiersOf mesh.index bytes tiers) where
@@ -199,6 +202,7 @@ module _ (mesh : MeshLists) (bytes : Option (List ℕ)) (tiers : List TierState)
     opens_in : OpensIn w a
     opens_in = record {
       world = is_world;
+      holds = holds;
       safe = subst (IsSafe w) (sym state_is) (opening_safe w is_world holds body bodies);
       take = subst (TakeWishes w) (sym state_is) (opening_kept w body).wishes;
       opening = record { body = body; bodies = bodies; is = state_is };
@@ -217,6 +221,7 @@ module _ (mesh : MeshLists) (bytes : Option (List ℕ)) (tiers : List TierState)
             seated = none_seated mesh tokens start.patches start.unused;
             pins = λ p. start.pins p ∙ base_listed mesh facts p ∙ sym (base_is_marked mesh facts p);
           };
+          holds = here.holds;
           opening = here.opening;
         }
 

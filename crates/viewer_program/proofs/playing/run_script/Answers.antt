@@ -41,6 +41,8 @@ returns-clause-ends g c = λ faults taken first later took.
     let opens = c.over_tiers-machine.ensures.opens in
     let safely : OpensSafely (world_of m) (run_state m) = record {
       world = opens.world;
+      holds = opens.holds;
+      opens = opens.opening;
       safe = opens.safe;
       accepted = subst (λ (w : World). IfSome w.bodies (λ (bodies : List BodyLists). IsAccepted (told_file w bodies) w.mesh.root)) (sym same) (accepted_or_not told c.args.mesh.now.lists c.args.play.now c.requires.world);
     } in

@@ -32,6 +32,7 @@ returns-clause-opens g c =
     let e = c.from_parts-chain.ensures in
     record {
       world = (opens g c).is.world;
+      holds = (opens g c).holds;
       safe = (opens g c).is.safe;
       opening = (opens g c).opening;
       closed = c.requires.first.closed;
