@@ -46,9 +46,9 @@ module _ (w : World) (bodies : List BodyLists) (is_told : IsTold w bodies) (worl
   shows_detail a b c order next did told safe kept base settles prints =
       λ log i view frame is_settle is_log is_frame is_printed ready never show.
       let settled : Does w a orders.Settle (DidTurns log) b =
-          subst (λ (d : Did). Does w a orders.Settle d b) is_log (subst (λ (o : Order). Does w a o did b) is_settle settles) in
+      subst (λ (d : Did). Does w a orders.Settle d b) is_log (subst (λ (o : Order). Does w a o did b) is_settle settles) in
       let printed : Does w b (orders.Frame i) (DidFrame frame) c =
-          subst (λ (d : Did). Does w b (orders.Frame i) d c) is_printed (subst (λ (o : Order). Does w b o told c) is_frame prints) in
+      subst (λ (d : Did). Does w b (orders.Frame i) d c) is_printed (subst (λ (o : Order). Does w b o told c) is_frame prints) in
       shows_wanted w world a safe kept base ready i view show bodies is_told b log (settle_line w a b log settled) never frame
       (frame_line w b i frame c printed)
 
@@ -62,10 +62,11 @@ module _ (w : World) (bodies : List BodyLists) (is_told : IsTold w bodies) (worl
   detail_since : (a b : State) (lines : List Order) (dids : List Did) → IsSafe w a → IsKept w a → KeepsBases a
       → (runs : Runs w a lines dids b) → DetailAlong w bodies a b lines dids runs
   detail_since a b _ _ safe kept base NoLine = tt
-  detail_since a c _ _ safe kept base (OneLine {b = b} {order = order} {orders = lines} {did = did} {dids = dids} does rest) =
-      (shows_next_detail a b c order did lines dids safe kept base does rest,
-       detail_since b c lines dids (does_keeps_safe w a b order did world safe does)
-       (does_kept w a b order did world safe does kept) (does_keeps_base w a b order did world safe does base) rest)
+  detail_since a c _ _ safe kept base (OneLine {b = b} {order = order} {orders = lines} {did = did} {dids = dids} does rest) = (
+    shows_next_detail a b c order did lines dids safe kept base does rest,
+    detail_since b c lines dids (does_keeps_safe w a b order did world safe does)
+        (does_kept w a b order did world safe does kept) (does_keeps_base w a b order did world safe does base) rest,
+  )
 
   -- a run from its opening on
   pub detail_along : HoldsBase w → (first last : State) (lines : List Order) (dids : List Did) → IsOpening w first
