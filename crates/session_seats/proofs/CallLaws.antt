@@ -92,6 +92,8 @@ module _ (mesh : MeshLists) (seats : List (Option Seat)) (words : PlainTokens) (
         let Moves : SessionState → Type 0 = λ t. ChangesSeat i (Some t) (words_seen words) (sessions_of seats) (words_seen now) (sessions_of after) in
         let Unused : SessionState → Type 0 = λ t. (p : ℕ) → uses t p ≡ false in
         record {
+          seats = many mesh seats words i old are seated at;
+          number = number mesh seats words i old are seated at;
           no_round = subst (λ (t : SessionState). t.round ≡ None) same no_round;
           unused = subst Unused same (none_used (seat_state new) no_round no_old no_flight);
           changes = subst Moves same moved;

@@ -34,6 +34,8 @@ pub record ReachesSeats (words : List Entry) (old : SeatsSeen) (words_now : List
 -- there was no memory for the round that the session was to begin in this state: a printed one has ended, and the
 -- session uses nothing
 pub record LacksRound (i : ℕ) (last : SessionState) (words : List Entry) (old : SeatsSeen) (words_now : List Entry) (new : SeatsSeen) : Type 0 where
+  pub seats : length old.sessions ≡ SESSIONS
+  pub number : IsSession i
   pub no_round : (settled last).round ≡ None
   pub unused : (p : ℕ) → uses (settled last) p ≡ false
   pub changes : ChangesSeat i (Some (settled last)) words old.sessions words_now new.sessions

@@ -1,6 +1,6 @@
 -- A session whose frame is printed, in the state of the run.
-use Rattle.std.proofs.Common.{◌≡◌, ℕ, List, length, Option, Some, Result, Ok, Err, OnErr, refl, sym, ap, subst, ◌∙◌}
-use Rattle.std.specs.Prelude.{OnOk, All}
+use Rattle.std.proofs.Common.{◌≡◌, ℕ, List, length, Option, Some, refl, sym, ap, subst, ◌∙◌}
+use Rattle.std.specs.Prelude.{All}
 use Rattle.round_model.specs.Refiners.{Refining, cut_patches}
 use Rattle.mesh_model.specs.Meshes.{MeshLists}
 use Rattle.script_model.specs.declared.orders.Order.TheVariants as orders
@@ -16,8 +16,8 @@ use Rattle.run_model.specs.Worlds.{World}
 use Rattle.run_model.specs.States.{State, seated}
 use Rattle.run_model.specs.Events.{Reaches, Prints, Stays, Then}
 use Rattle.run_model.specs.Lines.{DidFrame, frame_of, Does}
-use Rattle.session_seats.specs.Orders.{ReachesSeats, FinishesRound}
-use Rattle.session_seats.specs.OrderLaws.{printed_uses, same_uses, finished_reaches, frame_printed}
+use Rattle.session_seats.specs.Orders.{FinishesRound}
+use Rattle.session_seats.specs.OrderLaws.{printed_uses, same_uses, frame_printed}
 use Rattle.session_seats.specs.SeatLaws.{seat_changed}
 use Rattle.session_seats.specs.Seats.{SeatsSeen, at_seat, with_seat, state_of, AreSeated, IsDoneAt}
 use Rattle.view_machine.specs.Machines.{world_with, state_in, IsMachine}
@@ -25,11 +25,6 @@ use Rattle.view_machine.specs.MachineLaws.{KeepsMachine}
 use Rattle.view_machine.specs.SeatLines.{stop_keeps}
 use Rattle.view_machine.specs.FrameLines.{IsAtTop, patches_at_top}
 use Rattle.view_machine.specs.Stops.{StopsAt, AtEvents}
-
--- whether its round was finished or there was no memory, a session's steps are events
-pub finish_reaches : {E : Type 0} (i : ℕ) (words : List Entry) (old : SeatsSeen) (words_now : List Entry) (now : SeatsSeen) (result : Result (Unit {0}) E) → OnOk result (FinishesRound i words old words_now now) → OnErr result (ReachesSeats words old words_now now) → ReachesSeats words old words_now now
-finish_reaches i words old words_now now (Ok x) round stops = finished_reaches i words old words_now now round
-finish_reaches i words old words_now now (Err e) round stops = stops
 
 -- the top tier holds each patch of the frame that a session's round shows
 round_at_top : (mesh : MeshLists) (bytes : Option (List ℕ)) (tiers : List TierState) (words : List Entry) (seats : SeatsSeen) (board : BoardSeen) → IsMachine mesh bytes tiers words seats board → (i : ℕ) (s : SessionState) → at_seat seats.sessions i ≡ Some s → (r : Refining) → s.round ≡ Some r → All (IsAtTop mesh.index.fields tiers) (cut_patches r)

@@ -1,12 +1,14 @@
 -- Where an order stops that was refused memory: at a beginning of its own steps.
-use Rattle.std.specs.Prelude.{◌≡◌, ℕ, List, Some, slice_get}
+use Rattle.std.specs.Prelude.{◌≡◌, ℕ, true, false, List, Some, None, slice_get}
 use Rattle.script_model.specs.declared.orders.Order.{Order}
 use Rattle.script_model.specs.declared.orders.Order.TheVariants as orders
-use Rattle.token_words.specs.Changes.{Stays, ChangesOnly}
+use Rattle.session_model.specs.Sessions.{SessionState, uses, settled}
+use Rattle.session_model.specs.DoneRounds.{HasDone}
+use Rattle.session_model.specs.Finishes.{Steps, Finishes}
 use Rattle.tier_model.specs.declared.turns.Turn.{Turn}
 use Rattle.tier_model.specs.Tiers.{TierState}
 use Rattle.run_model.specs.Worlds.{World}
-use Rattle.run_model.specs.States.{State}
+use Rattle.run_model.specs.States.{State, seated}
 use Rattle.run_model.specs.Events.{Reaches}
 use Rattle.run_model.specs.Events.{Stays as NoEvent}
 use Rattle.run_model.specs.Lines.{Did, Does}
@@ -14,14 +16,24 @@ use Rattle.run_laws.specs.LineLaws.{does_reaches}
 use Rattle.view_machine.specs.SettleStates.{MakesAll, makes_reach}
 use Rattle.view_machine.specs.Stops.{began, StopsAt, AtEvents, AtTurn}
 
--- a session made steps: tiers, epochs and posted views are as they were, and no other session uses other patches
-pub record StepsAlone (w : World) (i : ℕ) (a b : State) : Type 0 where
+-- there was no memory for the round that session i was to begin in this state: a printed round has ended, the session uses
+-- nothing, and all else is as it was
+pub record StopsBeforeRound (w : World) (a : State) (i : ℕ) (last : SessionState) (b : State) : Type 0 where
   pub reaches : Reaches w a b
-  pub tiers : b.chain.tiers ≡ a.chain.tiers
-  pub epochs : Stays a.chain.epochs b.chain.epochs
-  pub users : ChangesOnly i a.users b.users
-  pub posted : b.posted ≡ a.posted
-  pub version : b.version ≡ a.version
+  pub no_round : (settled last).round ≡ None
+  pub unused : (p : ℕ) → uses (settled last) p ≡ false
+  pub is : b ≡ seated a i (Some (settled last))
+
+-- session i took the steps of its frame's line, and its round is done: all else is as it was
+pub record HasFinished (w : World) (a : State) (i : ℕ) (b : State) : Type 0 where
+  pub reaches : Reaches w a b
+  pub session : SessionState
+  pub at : a.sessions i ≡ Some session
+  pub tries : List (ℕ × ℕ)
+  pub last : SessionState
+  pub finishes : Finishes w.mesh true a.chain.epochs session tries last
+  pub done : HasDone last
+  pub is : b ≡ seated a i (Some last)
 
 -- what the order did until it stopped
 pub data StopsIn (w : World) (a : State) : Order → State → Type 0 where
@@ -29,9 +41,13 @@ pub data StopsIn (w : World) (a : State) : Order → State → Type 0 where
   AtStart : {order : Order} → StopsIn w a order a
   -- all, and only its text found no memory
   BeforeText : {order : Order} {b : State} (did : Did) → Does w a order did b → StopsIn w a order b
-  -- steps of the session
-  InStep : {b : State} (i : ℕ) → StepsAlone w i a b → StopsIn w a (orders.Step i) b
-  InFrame : {b : State} (i : ℕ) → StepsAlone w i a b → StopsIn w a (orders.Frame i) b
+  -- the session's step was to begin a round
+  InStep : {b : State} (i : ℕ) (s : SessionState) → a.sessions i ≡ Some s → StopsBeforeRound w a i s b → StopsIn w a (orders.Step i) b
+  -- the session took steps towards its frame, and the next one was to begin a round
+  InFrame : {b : State} (i : ℕ) (s : SessionState) (tries : List (ℕ × ℕ)) (last : SessionState) → a.sessions i ≡ Some s
+      → Steps w.mesh true a.chain.epochs s tries last → StopsBeforeRound w a i last b → StopsIn w a (orders.Frame i) b
+  -- the session finished its round, and the frame isn't printed
+  Unprinted : {b : State} (i : ℕ) → HasFinished w a i b → StopsIn w a (orders.Frame i) b
   -- the tier began its turn
   InTurn : (k : ℕ) (t : TierState) → slice_get a.chain.tiers k ≡ Some t → StopsIn w a (orders.Turn k) (began w a k t)
   -- turns, behind which one tier at most began another
@@ -42,8 +58,9 @@ pub data StopsIn (w : World) (a : State) : Order → State → Type 0 where
 pub own_stops : (w : World) (a : State) (order : Order) (b : State) → StopsIn w a order b → StopsAt w a b
 own_stops w a order _ AtStart = AtEvents NoEvent
 own_stops w a order b (BeforeText did does) = AtEvents (does_reaches w a b order did does)
-own_stops w a _ b (InStep i steps) = AtEvents steps.reaches
-own_stops w a _ b (InFrame i steps) = AtEvents steps.reaches
+own_stops w a _ b (InStep i s at stops) = AtEvents stops.reaches
+own_stops w a _ b (InFrame i s tries last at steps stops) = AtEvents stops.reaches
+own_stops w a _ b (Unprinted i finished) = AtEvents finished.reaches
 own_stops w a _ _ (InTurn k t at) = AtTurn k t NoEvent at
 own_stops w a _ b (InSettling made makes) = AtEvents (makes_reach w a b made makes)
 own_stops w a _ _ (InSettlingTurn {b = b} made k t makes at) = AtTurn k t (makes_reach w a b made makes) at

@@ -12,9 +12,8 @@ use Rattle.session_seats.specs.Orders.{FinishesRound}
 use Rattle.session_seats.specs.Seats.{SeatsSeen, AreSeated, told_at}
 use Rattle.view_machine.specs.Machines.{MachineSeen, world_of, run_state, world_with, state_in, KeepsPlace, IsMachine}
 use Rattle.view_machine.specs.MachineLaws.{KeepsMachine}
-use Rattle.view_machine.specs.SeatLines.{steps_alone, stop_keeps}
-use Rattle.view_machine.specs.FrameSeats.{finish_reaches}
-use Rattle.view_machine.specs.OwnStops.{StopsIn, InFrame, own_stops}
+use Rattle.view_machine.specs.SeatLines.{finish_stops, stop_keeps}
+use Rattle.view_machine.specs.OwnStops.{StopsIn, own_stops}
 use Rattle.view_machine.proofs.machines.Machine.finish_session.Goals as goal
 use Rattle.view_machine.proofs.machines.Machine.finish_session.Given as given
 
@@ -53,9 +52,8 @@ module _ (g : given.Over) (c : goal.After-finish g) where
 
   stops : StopsIn (world_with mesh bytes tiers) (state_in tiers words seats board) (orders.Frame c.args.session) (state_in tiers words_now seats_now board)
   stops =
-      InFrame c.args.session
-      (steps_alone mesh bytes tiers words seats board is words_now seats_now c.args.session
-      (finish_reaches c.args.session words seats words_now seats_now c.finish.result c.finish.ensures.round c.finish.ensures.none) c.finish.ensures.words)
+      finish_stops mesh bytes tiers words seats board is words_now seats_now c.args.session c.finish.result c.finish.ensures.round
+      c.finish.ensures.none c.finish.ensures.stops
 
   abbrev seen_now : MachineSeen g.row.S.Denot
   seen_now = record { chain = c.self.inside.chain; words = words_now; seats = seats_now; board = board; bytes = bytes }

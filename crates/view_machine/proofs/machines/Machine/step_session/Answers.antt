@@ -11,8 +11,8 @@ use Rattle.wish_board.specs.Boards.{BoardSeen}
 use Rattle.run_model.specs.Lines.{DidStep, Does}
 use Rattle.view_machine.specs.Machines.{MachineSeen, world_of, run_state, world_with, state_in, KeepsPlace, IsMachine}
 use Rattle.view_machine.specs.MachineLaws.{KeepsMachine}
-use Rattle.view_machine.specs.SeatLines.{does_either, seats_do, steps_alone, stop_keeps}
-use Rattle.view_machine.specs.OwnStops.{StopsIn, InStep}
+use Rattle.view_machine.specs.SeatLines.{does_either, seats_do, step_stops, stop_keeps}
+use Rattle.view_machine.specs.OwnStops.{StopsIn}
 use Rattle.view_machine.specs.TurnClauses.{if_ok_then, if_err_both}
 use Rattle.view_machine.proofs.machines.Machine.step_session.Goals as goal
 use Rattle.view_machine.proofs.machines.Machine.step_session.Given as given
@@ -54,7 +54,7 @@ module _ (g : given.Over) (c : goal.After-step g) where
   does = if_ok_then c.step.result (λ did one. seats_do mesh bytes tiers words seats board is words_now seats_now (orders.Step c.args.session) (DidStep c.args.session did) one) c.step.ensures.does
 
   stops : OnErr c.step.result (StopsIn (world_with mesh bytes tiers) (state_in tiers words seats board) (orders.Step c.args.session) (state_in tiers words_now seats_now board))
-  stops = if_err_both c.step.result (λ reaches again. InStep c.args.session (steps_alone mesh bytes tiers words seats board is words_now seats_now c.args.session reaches c.step.ensures.words)) c.step.ensures.none c.step.ensures.none
+  stops = if_err_both c.step.result (λ reaches stopped. step_stops mesh bytes tiers words seats board is words_now seats_now c.args.session reaches stopped) c.step.ensures.none c.step.ensures.stops
 
   abbrev seen_now : MachineSeen g.row.S.Denot
   seen_now = record { chain = c.self.inside.chain; words = words_now; seats = seats_now; board = board; bytes = bytes }
