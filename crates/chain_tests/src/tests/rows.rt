@@ -1,6 +1,6 @@
 //! Chains whose turns are known, over the square and the strip of two columns.
 
-use super::scenes::{Content, Deed, Course, Scene, expect_play, view};
+use super::scenes::{Content, Course, Deed, Scene, expect_play, view};
 use cache_chain::{Turn, TurnLine};
 use round_model::View;
 use sample_files::{square, strip};
