@@ -11,4 +11,5 @@ pub mod OpeningFacts
 pub mod Opening
 pub mod Refusals
 pub mod BaseLaws
+pub mod SettleOrder
 pub mod SettleRuns

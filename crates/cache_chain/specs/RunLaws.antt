@@ -13,9 +13,6 @@ makes_more u l m n made more turns Begins = subst (λ (all : List (ℕ × Turn))
 makes_more u l m o made more turns (Then {made = first} {n = n} k answer earlier turn) =
     subst (λ (all : List (ℕ × Turn)). MakesTurns u l all o) (append_assoc made first ((k, answer) ∷ [])) (Then k answer (makes_more u l m n made first turns earlier) turn)
 
-pub stops_more : (u : Setting) (l m n : Moment) (made more : List (ℕ × Turn)) → MakesTurns u l made m → StopsTurns u m more n → StopsTurns u l (made ++ more) n
-stops_more u l m n made more turns stops = record { last = stops.last; tier = stops.tier; turns = makes_more u l m stops.last made more turns stops.turns; refused = stops.refused }
-
 -- ---- sets and pins
 
 sets_same : (u : Setting) (a : WordsSeen) → KeepsSets u a a
@@ -66,10 +63,10 @@ refuses_before u k m = record {
 
 -- ---- a settling, whether it ended or was refused memory
 
-pub settling_sets : {E : Type 0} (u : Setting) (n : ℕ) (before after : Moment) (old new : List TurnLine) (result : Result (Unit {0}) E) → IfOk result (λ _. LogsSettling u n before after old new) → OnErr result (LogsStop u before after old new) → KeepsSets u before.words after.words
+pub settling_sets : {E : Type 0} (u : Setting) (n : ℕ) (before after : Moment) (old new : List TurnLine) (result : Result (Unit {0}) E) → IfOk result (λ _. LogsSettling u n before after old new) → OnErr result (LogsStop u n before after old new) → KeepsSets u before.words after.words
 settling_sets u n before after old new (Ok x) settled stopped = sets_kept u before after settled.made settled.turns
 settling_sets u n before after old new (Err e) settled stopped = sets_at_stop u before after stopped.made stopped.stops
 
-pub settling_later : {E : Type 0} (u : Setting) (n : ℕ) (before after : Moment) (old new : List TurnLine) (result : Result (Unit {0}) E) → IfOk result (λ _. LogsSettling u n before after old new) → OnErr result (LogsStop u before after old new) → before.faults ≤ after.faults
+pub settling_later : {E : Type 0} (u : Setting) (n : ℕ) (before after : Moment) (old new : List TurnLine) (result : Result (Unit {0}) E) → IfOk result (λ _. LogsSettling u n before after old new) → OnErr result (LogsStop u n before after old new) → before.faults ≤ after.faults
 settling_later u n before after old new (Ok x) settled stopped = faults_later u before after settled.made settled.turns
 settling_later u n before after old new (Err e) settled stopped = faults_at_stop u before after stopped.made stopped.stops

@@ -7,6 +7,7 @@ use Rattle.settling_laws.specs.Midway.{IsMidway, IsHalfSettled}
 use Rattle.cache_chain.specs.declared.parts.TurnLine.{TurnLine}
 use Rattle.cache_chain.specs.ChainStates.{AreTiersOf}
 use Rattle.cache_chain.specs.Turning.{AllKeepWishes}
+use Rattle.cache_chain.specs.SettleOrder.{IdlesLast, SettleLog, ComesNext}
 use Rattle.cache_chain.specs.TurnRuns.{Setting, Moment, chain_at, MakesTurns, StopsTurns}
 
 -- a turn as a line of the log, and turns as lines
@@ -31,11 +32,12 @@ pub record LogsSettling (u : Setting) (n : ℕ) (before after : Moment) (old new
   pub settles : Settles u.board n (chain_at before) made (chain_at after)
   pub turns : MakesTurns u before made after
 
--- the turns that were made were logged, and the next was refused memory
-pub record LogsStop (u : Setting) (before after : Moment) (old new : List TurnLine) : Type 0 where
+-- the turns that were made were logged, the first of a settling of n tiers, and the next was refused memory
+pub record LogsStop (u : Setting) (n : ℕ) (before after : Moment) (old new : List TurnLine) : Type 0 where
   pub made : List (ℕ × Turn)
   pub log : new ≡ old ++ lines_of made
   pub stops : StopsTurns u before made after
+  pub next : ComesNext n stops.tier made
 
 -- ---- on the way
 
@@ -51,6 +53,7 @@ pub record LogsMidway (u : Setting) (k count : ℕ) (before after : Moment) (old
   pub made : List (ℕ × Turn)
   pub log : new ≡ old ++ lines_of made
   pub midway : IsMidway u.board k (length u.index.fields) (chain_at before) (chain_at after) made
+  pub order : (rest : List (ℕ × Turn)) → IdlesLast k rest → IdlesLast k (made ++ rest)
   pub turns : MakesTurns u before made after
   pub many : length made ≡ count
 
@@ -59,4 +62,5 @@ pub record LogsHalf (u : Setting) (n left : ℕ) (before after : Moment) (old ne
   pub made : List (ℕ × Turn)
   pub log : new ≡ old ++ lines_of made
   pub half : IsHalfSettled u.board n left (chain_at before) (chain_at after) made
+  pub order : (rest : List (ℕ × Turn)) → SettleLog left rest → SettleLog n (made ++ rest)
   pub turns : MakesTurns u before made after

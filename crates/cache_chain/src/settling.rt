@@ -1,6 +1,6 @@
 //! Settling of tiers, with a log.
 
-ghost use Rattle.std.specs.Prelude.{◌≡◌, ◌<◌, ◌≤◌, ◌++◌, ◌∷◌, [], true, length, IfOk, OnErr, MatchResult};
+ghost use Rattle.std.specs.Prelude.{◌≡◌, ◌<◌, ◌≤◌, ◌++◌, ◌∷◌, [], suc, true, length, IfOk, OnErr, MatchResult};
 ghost use Rattle.view_outside.specs.Files.{HasFile, file_bytes};
 ghost use Rattle.transfer_step.specs.TurnWords.{board_of};
 ghost use Rattle.cache_chain.specs.ChainStates.{states_of};
@@ -129,6 +129,7 @@ fn settle_tier<S: Store, W: Wishes, K: Keeper>(
         (LogsStop
         (setting_of (board_of (W.wish_of wishes.now) (W.version_of wishes.now)) K.tells_sets
         K.tells_misses index.now (file_bytes (S.files store.old) file))
+        (suc tier)
         (moment_of (states_of tiers.old)
         (words_of (K.patches keeper.old) (K.epochs keeper.old) (K.pinned keeper.old)
         (K.session_uses keeper.old) (K.session_locks keeper.old)
@@ -200,6 +201,7 @@ pub fn settle_tiers<S: Store, W: Wishes, K: Keeper>(
         (LogsStop
         (setting_of (board_of (W.wish_of wishes.now) (W.version_of wishes.now)) K.tells_sets
         K.tells_misses index.now (file_bytes (S.files store.old) file))
+        (length tiers.old)
         (moment_of (states_of tiers.old)
         (words_of (K.patches keeper.old) (K.epochs keeper.old) (K.pinned keeper.old)
         (K.session_uses keeper.old) (K.session_locks keeper.old)

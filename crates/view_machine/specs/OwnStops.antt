@@ -1,5 +1,5 @@
 -- Where an order stops that was refused memory: at a beginning of its own steps.
-use Rattle.std.specs.Prelude.{◌≡◌, ℕ, true, false, List, Some, None, slice_get}
+use Rattle.std.specs.Prelude.{◌≡◌, ℕ, true, false, List, length, Some, None, slice_get}
 use Rattle.script_model.specs.declared.orders.Order.{Order}
 use Rattle.script_model.specs.declared.orders.Order.TheVariants as orders
 use Rattle.session_model.specs.Sessions.{SessionState, uses, settled}
@@ -7,6 +7,7 @@ use Rattle.session_model.specs.DoneRounds.{HasDone}
 use Rattle.session_model.specs.Finishes.{Steps, Finishes}
 use Rattle.tier_model.specs.declared.turns.Turn.{Turn}
 use Rattle.tier_model.specs.Tiers.{TierState}
+use Rattle.cache_chain.specs.SettleOrder.{ComesNext}
 use Rattle.run_model.specs.Worlds.{World}
 use Rattle.run_model.specs.States.{State, seated}
 use Rattle.run_model.specs.Events.{Reaches}
@@ -50,9 +51,10 @@ pub data StopsIn (w : World) (a : State) : Order → State → Type 0 where
   Unprinted : {b : State} (i : ℕ) → HasFinished w a i b → StopsIn w a (orders.Frame i) b
   -- the tier began its turn
   InTurn : (k : ℕ) (t : TierState) → slice_get a.chain.tiers k ≡ Some t → StopsIn w a (orders.Turn k) (began w a k t)
-  -- turns, behind which one tier at most began another
-  InSettling : {b : State} (made : List (ℕ × Turn)) → MakesAll w a made b → StopsIn w a orders.Settle b
-  InSettlingTurn : {b : State} (made : List (ℕ × Turn)) (k : ℕ) (t : TierState) → MakesAll w a made b → slice_get b.chain.tiers k ≡ Some t → StopsIn w a orders.Settle (began w b k t)
+  -- the first turns of the settling, behind which the tier that comes next has at most begun its turn
+  InSettling : {b : State} (made : List (ℕ × Turn)) (k : ℕ) → ComesNext (length w.budgets) k made → MakesAll w a made b → StopsIn w a orders.Settle b
+  InSettlingTurn : {b : State} (made : List (ℕ × Turn)) (k : ℕ) (t : TierState) → ComesNext (length w.budgets) k made → MakesAll w a made b
+      → slice_get b.chain.tiers k ≡ Some t → StopsIn w a orders.Settle (began w b k t)
 
 -- so events lead there, but that a tier may have begun a turn
 pub own_stops : (w : World) (a : State) (order : Order) (b : State) → StopsIn w a order b → StopsAt w a b
@@ -62,5 +64,5 @@ own_stops w a _ b (InStep i s at stops) = AtEvents stops.reaches
 own_stops w a _ b (InFrame i s tries last at steps stops) = AtEvents stops.reaches
 own_stops w a _ b (Unprinted i finished) = AtEvents finished.reaches
 own_stops w a _ _ (InTurn k t at) = AtTurn k t NoEvent at
-own_stops w a _ b (InSettling made makes) = AtEvents (makes_reach w a b made makes)
-own_stops w a _ _ (InSettlingTurn {b = b} made k t makes at) = AtTurn k t (makes_reach w a b made makes) at
+own_stops w a _ b (InSettling made k next makes) = AtEvents (makes_reach w a b made makes)
+own_stops w a _ _ (InSettlingTurn {b = b} made k t next makes at) = AtTurn k t (makes_reach w a b made makes) at

@@ -1,12 +1,11 @@
 -- A settling of a chain, as turns in the state of a run.
-use Rattle.std.proofs.Common.{◌≢◌, ℕ, zero, suc, List, [], ◌∷◌, ◌++◌, Option}
+use Rattle.std.proofs.Common.{ℕ, List, [], ◌∷◌, ◌++◌, Option}
 use Rattle.session_model.specs.Sessions.{SessionState}
 use Rattle.tier_model.specs.declared.turns.Turn.{Turn}
-use Rattle.tier_model.specs.declared.turns.Turn.TheVariants.{Idle}
 use Rattle.tier_model.specs.Ranks.{Posted}
-use Rattle.tier_model.specs.Turns.{Board}
 use Rattle.tier_model.specs.Chains.{Chain}
-use Rattle.tier_model.specs.Settling.{TurnsToIdle, Last, More, Settles, Settled, Tier}
+use Rattle.tier_model.specs.Settling.{Settles}
+use Rattle.cache_chain.specs.SettleOrder.{IdlesLast, IdleLast, IdleLater, SettleLog, NoTier, OneTier, settle_log}
 use Rattle.cache_chain.specs.TurnRuns.{Setting, Moment, MakesTurns, Begins}
 use Rattle.cache_chain.specs.TurnRuns.{Then as AndTurn}
 use Rattle.run_model.specs.Worlds.{World, IsWorld}
@@ -17,26 +16,6 @@ use Rattle.run_model.specs.Safe.{IsSafe}
 use Rattle.run_laws.specs.SafeLaws.{events_keep_safe}
 use Rattle.run_model.specs.Lines.{IdlesTo, LastTurn, MoreTurns, SettlesTo, AllSettled, TierSettles}
 use Rattle.view_machine.specs.TurnStates.{state_at, IsSettingOf, turn_tells}
-
--- ---- which turns a settling has
-
--- turns of tier k, of which the last alone is idle
-data IdlesLast (k : ℕ) : List (ℕ × Turn) → Type 0 where
-  IdleLast : IdlesLast k ((k, Idle) ∷ [])
-  IdleLater : {log : List (ℕ × Turn)} (answer : Turn) → answer ≢ Idle → IdlesLast k log → IdlesLast k ((k, answer) ∷ log)
-
--- such turns of each of the first n tiers, from the lowest of them to the top
-data SettleLog : ℕ → List (ℕ × Turn) → Type 0 where
-  NoTier : SettleLog zero []
-  OneTier : {n : ℕ} {log rest : List (ℕ × Turn)} → IdlesLast n log → SettleLog n rest → SettleLog (suc n) (log ++ rest)
-
-idles_last : (board : Board) (k : ℕ) (a b : Chain) (log : List (ℕ × Turn)) → TurnsToIdle board k a log b → IdlesLast k log
-idles_last board k a b _ (Last turn) = IdleLast
-idles_last board k a c _ (More {b = b} {log = log} answer going turn rest) = IdleLater answer going (idles_last board k b c log rest)
-
-settle_log : (board : Board) (n : ℕ) (a b : Chain) (log : List (ℕ × Turn)) → Settles board n a log b → SettleLog n log
-settle_log board _ a _ _ Settled = NoTier
-settle_log board _ a c _ (Tier {n = n} {b = b} {log = log} {rest = rest} turns settles) = OneTier (idles_last board n a b log turns) (settle_log board n b c rest settles)
 
 -- ---- turns in the state of a run
 

@@ -23,6 +23,7 @@ use Rattle.cache_chain.specs.ChainStates.{IsFileBody, FindsChanged}
 use Rattle.cache_chain.specs.Turning.{chain_of, AtLowest, GivesBelow, TakesWishes}
 use Rattle.cache_chain.specs.WordTurns.{words_of}
 use Rattle.cache_chain.specs.TurnRuns.{Setting, Moment, setting_of, moment_of, chain_at, KeepsSets, MakesTurn, MakesTurns}
+use Rattle.cache_chain.specs.SettleOrder.{ComesNext}
 use Rattle.cache_chain.specs.SettleRuns.{lines_of, LogsSettling, LogsStop}
 use Rattle.cache_chain.specs.declared.parts.TurnLine.{TurnLine}
 use Rattle.run_model.specs.Worlds.{World}
@@ -190,14 +191,15 @@ module _ (mesh : MeshLists) (bytes : Option (List ℕ)) (tiers : List TierState)
     unfolding state_of
     settling_counts made turns = turns_count w is.world (at_seat seats.sessions) (at_seat board.views) board.version u first last made setting_is is.safe turns
 
-    pub settling_stops : (old new : List TurnLine) → LogsStop u first last old new → StopsIn w (state_in tiers words seats board) orders.Settle (state_in now words_now seats board)
+    pub settling_stops : (old new : List TurnLine) → LogsStop u (length tiers) first last old new → StopsIn w (state_in tiers words seats board) orders.Settle (state_in now words_now seats board)
     unfolding state_of
     settling_stops old new logs =
         let sessions = at_seat seats.sessions in
         let posted = at_seat board.views in
         let a = state_in tiers words seats board in
         let stops = logs.stops in
+        let next = subst (λ (n : ℕ). ComesNext n stops.tier logs.made) is.safe.many logs.next in
         let makes = turns_tell w is.world sessions posted board.version u first stops.last logs.made setting_is is.safe stops.turns in
         stopped (StopsIn w a orders.Settle) w sessions posted board.version u stops.tier stops.last last
         (setting_again w is.world sessions posted board.version u first stops.last setting_is)
-        (InSettling logs.made makes) (λ t at. InSettlingTurn logs.made stops.tier t makes at) stops.refused.tiers stops.refused.epochs (stops.refused.sets.users refl)
+        (InSettling logs.made stops.tier next makes) (λ t at. InSettlingTurn logs.made stops.tier t next makes at) stops.refused.tiers stops.refused.epochs (stops.refused.sets.users refl)

@@ -64,6 +64,7 @@ impl<'a, S: Store> TierChain<'a, S> {
             (setting_of (board_of (W.wish_of wishes.now) (W.version_of wishes.now))
             K.tells_sets K.tells_misses self.old.mesh.lists.index
             (file_bytes (S.files self.old.store) self.old.file))
+            (length self.old.tiers)
             (moment_of self.old.tiers
             (words_of (K.patches keeper.old) (K.epochs keeper.old) (K.pinned keeper.old)
             (K.session_uses keeper.old) (K.session_locks keeper.old)
@@ -140,6 +141,7 @@ impl<'a, S: Store> TierChain<'a, S> {
             (setting_of (board_of (W.wish_of wishes.now) (W.version_of wishes.now))
             K.tells_sets K.tells_misses self.old.mesh.lists.index
             (file_bytes (S.files self.old.store) self.old.file))
+            (length self.old.tiers)
             (moment_of self.old.tiers
             (words_of (K.patches keeper.old) (K.epochs keeper.old) (K.pinned keeper.old)
             (K.session_uses keeper.old) (K.session_locks keeper.old)

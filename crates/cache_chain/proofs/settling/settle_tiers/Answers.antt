@@ -41,8 +41,10 @@ pub returns-in_err-settle_tier-clause-stopped : goal.returns-in_err-settle_tier-
 returns-in_err-settle_tier-clause-stopped g c =
     let m = (moment_of (states_of c.loop-left.tiers) (words_of (g.K.Keeper.patches c.loop-left.keeper) (g.K.Keeper.epochs c.loop-left.keeper) (g.K.Keeper.pinned c.loop-left.keeper) (g.K.Keeper.session_uses c.loop-left.keeper) (g.K.Keeper.session_locks c.loop-left.keeper) (g.K.Keeper.misses c.loop-left.keeper)) (g.S.Store.faults c.loop-left.store) (g.S.Store.taken c.loop-left.store)) in
     let n = (moment_of (states_of c.settle_tier.new.tiers) (words_of (g.K.Keeper.patches c.settle_tier.new.keeper) (g.K.Keeper.epochs c.settle_tier.new.keeper) (g.K.Keeper.pinned c.settle_tier.new.keeper) (g.K.Keeper.session_uses c.settle_tier.new.keeper) (g.K.Keeper.session_locks c.settle_tier.new.keeper) (g.K.Keeper.misses c.settle_tier.new.keeper)) (g.S.Store.faults c.settle_tier.new.store) (g.S.Store.taken c.settle_tier.new.store)) in
-    let stopped = subst (λ (files : Option (List Named)). LogsStop (setting_of (board_of (g.W.Wishes.wish_of c.args.wishes.now) (g.W.Wishes.version_of c.args.wishes.now)) g.K.Keeper.tells_sets g.K.Keeper.tells_misses c.args.index.now (file_bytes files c.args.file)) m n c.loop-left.log.items c.settle_tier.new.log.items) c.loop-left.invariant.files c.in_err-settle_tier.ensures.stopped in
-    at_error (LogsStop (setting_of (board_of (g.W.Wishes.wish_of c.args.wishes.now) (g.W.Wishes.version_of c.args.wishes.now)) g.K.Keeper.tells_sets g.K.Keeper.tells_misses c.args.index.now (file_bytes (g.S.Store.files c.args.store.now) c.args.file)) (moment_of (states_of c.args.tiers.now) (words_of (g.K.Keeper.patches c.args.keeper.now) (g.K.Keeper.epochs c.args.keeper.now) (g.K.Keeper.pinned c.args.keeper.now) (g.K.Keeper.session_uses c.args.keeper.now) (g.K.Keeper.session_locks c.args.keeper.now) (g.K.Keeper.misses c.args.keeper.now)) (g.S.Store.faults c.args.store.now) (g.S.Store.taken c.args.store.now)) n c.args.log.now.items c.settle_tier.new.log.items) c.from_residual.result (half_stops (setting_of (board_of (g.W.Wishes.wish_of c.args.wishes.now) (g.W.Wishes.version_of c.args.wishes.now)) g.K.Keeper.tells_sets g.K.Keeper.tells_misses c.args.index.now (file_bytes (g.S.Store.files c.args.store.now) c.args.file)) (length c.args.tiers.now) c.loop-left.left (moment_of (states_of c.args.tiers.now) (words_of (g.K.Keeper.patches c.args.keeper.now) (g.K.Keeper.epochs c.args.keeper.now) (g.K.Keeper.pinned c.args.keeper.now) (g.K.Keeper.session_uses c.args.keeper.now) (g.K.Keeper.session_locks c.args.keeper.now) (g.K.Keeper.misses c.args.keeper.now)) (g.S.Store.faults c.args.store.now) (g.S.Store.taken c.args.store.now)) m n c.args.log.now.items c.loop-left.log.items c.settle_tier.new.log.items c.loop-left.invariant.so_far stopped)
+    let stopped = subst (λ (files : Option (List Named)). LogsStop (setting_of (board_of (g.W.Wishes.wish_of c.args.wishes.now) (g.W.Wishes.version_of c.args.wishes.now)) g.K.Keeper.tells_sets g.K.Keeper.tells_misses c.args.index.now (file_bytes files c.args.file)) (suc (c.loop-left.left - 1)) m n c.loop-left.log.items c.settle_tier.new.log.items) c.loop-left.invariant.files c.in_err-settle_tier.ensures.stopped in
+    let one : suc (c.loop-left.left - 1) ≡ c.loop-left.left = omega arith in
+    let here = subst (λ (left : ℕ). LogsStop (setting_of (board_of (g.W.Wishes.wish_of c.args.wishes.now) (g.W.Wishes.version_of c.args.wishes.now)) g.K.Keeper.tells_sets g.K.Keeper.tells_misses c.args.index.now (file_bytes (g.S.Store.files c.args.store.now) c.args.file)) left m n c.loop-left.log.items c.settle_tier.new.log.items) one stopped in
+    at_error (LogsStop (setting_of (board_of (g.W.Wishes.wish_of c.args.wishes.now) (g.W.Wishes.version_of c.args.wishes.now)) g.K.Keeper.tells_sets g.K.Keeper.tells_misses c.args.index.now (file_bytes (g.S.Store.files c.args.store.now) c.args.file)) (length c.args.tiers.now) (moment_of (states_of c.args.tiers.now) (words_of (g.K.Keeper.patches c.args.keeper.now) (g.K.Keeper.epochs c.args.keeper.now) (g.K.Keeper.pinned c.args.keeper.now) (g.K.Keeper.session_uses c.args.keeper.now) (g.K.Keeper.session_locks c.args.keeper.now) (g.K.Keeper.misses c.args.keeper.now)) (g.S.Store.faults c.args.store.now) (g.S.Store.taken c.args.store.now)) n c.args.log.now.items c.settle_tier.new.log.items) c.from_residual.result (half_stops (setting_of (board_of (g.W.Wishes.wish_of c.args.wishes.now) (g.W.Wishes.version_of c.args.wishes.now)) g.K.Keeper.tells_sets g.K.Keeper.tells_misses c.args.index.now (file_bytes (g.S.Store.files c.args.store.now) c.args.file)) (length c.args.tiers.now) c.loop-left.left (moment_of (states_of c.args.tiers.now) (words_of (g.K.Keeper.patches c.args.keeper.now) (g.K.Keeper.epochs c.args.keeper.now) (g.K.Keeper.pinned c.args.keeper.now) (g.K.Keeper.session_uses c.args.keeper.now) (g.K.Keeper.session_locks c.args.keeper.now) (g.K.Keeper.misses c.args.keeper.now)) (g.S.Store.faults c.args.store.now) (g.S.Store.taken c.args.store.now)) m n c.args.log.now.items c.loop-left.log.items c.settle_tier.new.log.items c.loop-left.invariant.so_far here)
 
 pub returns-clause-settled : goal.returns-clause-settled
 returns-clause-settled g c =
