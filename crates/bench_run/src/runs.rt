@@ -19,7 +19,7 @@ use cache_chain::open_tiers;
 use grid_vertex::{NoMemory, Point};
 use round_model::View;
 use std::alloc::Global;
-use view_machine::{Beginning, FrameSize, Machine, StartRefusal};
+use view_machine::{EmptyRun, FrameSize, Machine, StartRefusal};
 
 // Only want of memory refuses a tier that has room for all over a store that never fails.
 fn memory_of_start(refusal: StartRefusal) -> NoMemory
@@ -46,7 +46,7 @@ fn open_machine<'a>(
     requires files { store.old.files ≡ strip_files columns }
     ensures { IfOk result (OpensBench columns) }
 {
-    let first = Beginning::new(alloc, mesh)?;
+    let first = EmptyRun::new(alloc, mesh)?;
     let budgets = [300 * u64::from(columns) - 120];
     match open_tiers(alloc, mesh, &budgets, 1, store, 0) {
         Ok(tiers) => Ok(Machine::over_tiers(first, mesh, tiers, store, 0)),

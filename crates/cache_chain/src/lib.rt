@@ -5,13 +5,13 @@
 //! how a chain opens and how it settles.
 #![tactic(auto)]
 
+mod among_tiers;
 mod chains;
 mod opening;
 mod parts;
 mod refusals;
-mod settling;
+mod tier_settling;
 mod tier_turns;
-mod turning;
 
 pub use chains::TierChain;
 pub use opening::open_tiers;

@@ -10,7 +10,7 @@ ghost use Rattle.cache_chain.specs.WordTurns.{words_of};
 ghost use Rattle.cache_chain.specs.TurnRuns.{setting_of, moment_of, MakesTurn, RefusesTurn};
 ghost use Rattle.cache_chain.specs.SettleRuns.{MayTurn};
 
-use crate::turning::turn_among;
+use crate::among_tiers::turn_among;
 use grid_vertex::NoMemory;
 use patch_file::Index;
 use std::alloc::Global;

@@ -2,7 +2,7 @@
 use Rattle.std.specs.Prelude.{map, All}
 use Rattle.file_model.specs.Lists.{FileLists}
 use Rattle.patch_file.specs.PartsState.{IsSpelledIn}
-use Rattle.patch_file.specs.declared.parts.FileParts.TheInside.{Inside}
+use Rattle.patch_file.specs.declared.file_parts.FileParts.TheInside.{Inside}
 
 abbrev pub parts_lists : Inside → FileLists
 parts_lists parts = record {

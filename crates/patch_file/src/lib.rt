@@ -5,19 +5,19 @@
 #![tactic(auto)]
 
 mod batches;
+mod fields;
+mod file_parts;
+mod front_bytes;
+mod full_reads;
 mod header;
 mod index;
-mod parts;
 mod readers;
-mod reading;
 mod sizes;
-mod spelling;
-mod units;
 mod writing;
 
 pub use file_model::{FileFault, Node, PatchField, ReadRefusal, Try};
+pub use file_parts::FileParts;
 pub use index::Index;
-pub use parts::FileParts;
 pub use patch_body::Body;
 pub use readers::{read_body, read_end, read_index};
 pub use writing::write_file;

@@ -13,10 +13,10 @@ ghost use Rattle.patch_file.specs.Headers.{header_seen, IsHeader};
 ghost use Rattle.patch_file.specs.BodyRead.{IsBodyOf};
 ghost use Rattle.patch_file.specs.Taking.{index_size};
 
+use crate::fields::{fields_of, nodes_of};
+use crate::full_reads::read_full;
 use crate::header::{Header, header_of};
 use crate::index::Index;
-use crate::reading::read_full;
-use crate::units::{fields_of, nodes_of};
 use file_model::{FileFault, ReadRefusal};
 use patch_body::Body;
 use std::alloc::Global;

@@ -9,8 +9,8 @@ ghost use Rattle.view_outside.specs.Written.{Wrote};
 ghost use Rattle.patch_file.specs.Batches.{Sends};
 
 use crate::batches::Batch;
-use crate::parts::FileParts;
-use crate::spelling::{field_bytes, header_bytes, node_bytes};
+use crate::file_parts::FileParts;
+use crate::front_bytes::{field_bytes, header_bytes, node_bytes};
 use file_model::{Node, PatchField};
 use patch_body::Body;
 use view_outside::{Sink, WriteFault};

@@ -21,7 +21,7 @@ use Rattle.tier_model.specs.Chains.{Chain, has_below, is_top, told_at, epochs_th
 use Rattle.run_model.specs.Worlds.{World, IsFileBody}
 use Rattle.run_model.specs.States.{State, board_of, seated, posting, moved}
 use Rattle.run_model.specs.Turning.{GivesHeld, GivesStored, GivesBelow, IfFetched, uses_of, found_by, turn_at, TurnsTo}
-use Rattle.run_model.specs.Lines.{TierTold, tier_told, Did, DidFrame, DidTell, top_body, frame_of, frame_with, IdlesTo, LastTurn, MoreTurns, SettlesTo, AllSettled, TierSettles, Does, DoesOpen, DoesView, DoesStep, DoesFrame, DoesFree, DoesClose, DoesTurn, DoesSettle, DoesStatus}
+use Rattle.run_model.specs.Lines.{TierStatus, tier_status, Did, DidFrame, DidTell, top_body, frame_of, frame_with, IdlesTo, LastTurn, MoreTurns, SettlesTo, AllSettled, TierSettles, Does, DoesOpen, DoesView, DoesStep, DoesFrame, DoesFree, DoesClose, DoesTurn, DoesSettle, DoesStatus}
 use Rattle.run_laws.specs.BlankTiers.{blank_body, blank, blank_fetched, blank_at, blank_held, blank_load, blank_count, blank_leaving, blank_begun, blank_turns, blank_tiers_twice}
 
 -- the state with bodies without their bytes
@@ -165,13 +165,13 @@ blank_frame : (tiers : List TierState) (i : ℕ) (s : SessionState) (round : Ref
 unfolding frame_of frame_with
 blank_frame tiers i s round = ap (λ (triangles : List Triangle). record (frame_of tiers i s round) { triangles = triangles }) (blank_triangles tiers (cut_patches round))
 
-blank_tier_told : (t : TierState) → tier_told (blank t) ≡ tier_told t
+blank_tier_status : (t : TierState) → tier_status (blank t) ≡ tier_status t
 unfolding blank
-blank_tier_told t = ap₂ (λ (load held : ℕ). record (tier_told t) { load = load; held = held }) (blank_load t) (blank_count t.held)
+blank_tier_status t = ap₂ (λ (load held : ℕ). record (tier_status t) { load = load; held = held }) (blank_load t) (blank_count t.held)
 
-blank_tell : (tiers : List TierState) → map tier_told (map blank tiers) ≡ map tier_told tiers
+blank_tell : (tiers : List TierState) → map tier_status (map blank tiers) ≡ map tier_status tiers
 blank_tell [] = refl
-blank_tell (t ∷ ts) = ap₂ (λ (u : TierTold) (us : List TierTold). u ∷ us) (blank_tier_told t) (blank_tell ts)
+blank_tell (t ∷ ts) = ap₂ (λ (u : TierStatus) (us : List TierStatus). u ∷ us) (blank_tier_status t) (blank_tell ts)
 
 -- ---- lines
 
@@ -193,4 +193,4 @@ blank_does w a b order did (DoesClose i unlocks s t at frees) =
     subst (Does w (blank_state a) order did) (sym (blank_closed a i (is_some (a.posted i)))) (DoesClose i unlocks s t at frees)
 blank_does w a b order did (DoesTurn k answer turn) = DoesTurn k answer (blank_turns_to w k a b answer turn)
 blank_does w a b order did (DoesSettle {log = log} settles) = DoesSettle (blank_settles w (length w.budgets) a b log settles)
-blank_does w a b order did DoesStatus = subst (λ (tiers : List TierTold). Does w (blank_state a) order (DidTell tiers) (blank_state a)) (blank_tell a.chain.tiers) DoesStatus
+blank_does w a b order did DoesStatus = subst (λ (tiers : List TierStatus). Does w (blank_state a) order (DidTell tiers) (blank_state a)) (blank_tell a.chain.tiers) DoesStatus

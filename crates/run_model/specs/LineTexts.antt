@@ -8,7 +8,7 @@ use Rattle.text_model.specs.Lines.{line_of, decimals}
 use Rattle.text_model.specs.StatusText.{file_fault_words}
 use Rattle.tier_model.specs.declared.turns.Turn.{Turn}
 use Rattle.tier_model.specs.declared.turns.Turn.TheVariants.{Reserve, Evict, Kept, Got, Lost, Fault, Changed, Commit, Idle}
-use Rattle.run_model.specs.Lines.{TierTold, Did, DidOpen, DidView, DidStep, DidFrame, DidFree, DidClose, DidTurns, DidTell}
+use Rattle.run_model.specs.Lines.{TierStatus, Did, DidOpen, DidView, DidStep, DidFrame, DidFree, DidClose, DidTurns, DidTell}
 
 -- a turn as words
 abbrev pub turn_words : Turn → List (List ℕ)
@@ -40,11 +40,11 @@ step_words (GaveBack p) = codes "back" ∷ decimal p ∷ []
 step_words Done = codes "done" ∷ []
 
 -- the line of tier k: its budget, its load, how many patches it holds, and the patches that come, in their order
-unfoldable pub tier_line : ℕ → TierTold → List ℕ
+unfoldable pub tier_line : ℕ → TierStatus → List ℕ
 tier_line k t = line_of (codes "tier") (decimal k ∷ codes "budget" ∷ decimal t.budget ∷ codes "load" ∷ decimal t.load ∷ codes "held" ∷ decimal t.held ∷ codes "coming" ∷ decimals t.coming)
 
 -- the lines of tiers, the first of which is tier k
-unfoldable pub tier_lines : ℕ → List TierTold → List ℕ
+unfoldable pub tier_lines : ℕ → List TierStatus → List ℕ
 tier_lines k [] = []
 tier_lines k (t ∷ ts) = tier_line k t ++ tier_lines (k + 1) ts
 

@@ -26,14 +26,14 @@ use Rattle.session_model.specs.Freeing.{FreesAll}
 -- ---- what a line did
 
 -- what is told of a tier: its budget, its load, how many patches it holds, and those that come
-pub record TierTold : Type 0 where
+pub record TierStatus : Type 0 where
   pub budget : ℕ
   pub load : ℕ
   pub held : ℕ
   pub coming : List ℕ
 
-abbrev pub tier_told : TierState → TierTold
-tier_told t = record { budget = t.budget; load = load t; held = count_by (λ o. is_some o) t.held; coming = map (λ (c : Coming). c.patch) t.coming }
+abbrev pub tier_status : TierState → TierStatus
+tier_status t = record { budget = t.budget; load = load t; held = count_by (λ o. is_some o) t.held; coming = map (λ (c : Coming). c.patch) t.coming }
 
 -- what a line did, by the number of the session that it ordered
 pub data Did : Type 0 where
@@ -44,7 +44,7 @@ pub data Did : Type 0 where
   DidFree : ℕ → ℕ → Did
   DidClose : ℕ → ℕ → Did
   DidTurns : List (ℕ × Turn) → Did
-  DidTell : List TierTold → Did
+  DidTell : List TierStatus → Did
 
 -- ---- frames
 
@@ -105,7 +105,7 @@ pub data Does (w : World) : State → Order → Did → State → Type 0 where
   -- all tiers settle
   DoesSettle : {a b : State} {log : List (ℕ × Turn)} → SettlesTo w (length w.budgets) a log b → Does w a orders.Settle (DidTurns log) b
   -- what the tiers hold is told
-  DoesStatus : {a : State} → Does w a orders.Status (DidTell (map tier_told a.chain.tiers)) a
+  DoesStatus : {a : State} → Does w a orders.Status (DidTell (map tier_status a.chain.tiers)) a
 
 -- lines do this, one after another
 pub data Runs (w : World) : State → List Order → List Did → State → Type 0 where

@@ -4,7 +4,7 @@ ghost use Rattle.std.specs.Prelude.{◌≡◌, true, map, OnOk, OnErr};
 ghost use Rattle.text_model.specs.Lines.{Adds, begins_line, decimals, spaced};
 ghost use Rattle.frame_writer.specs.Appending.{Begins};
 ghost use Rattle.tier_model.specs.declared.turns.Coming.{Coming};
-ghost use Rattle.run_model.specs.Lines.{tier_told};
+ghost use Rattle.run_model.specs.Lines.{tier_status};
 ghost use Rattle.run_model.specs.LineTexts.{tier_line};
 
 use frame_writer::{Part, add_part, add_parts, begin_line, end_line, undo_if_refused};
@@ -29,7 +29,7 @@ fn write_coming(alloc: Global, coming: &[Coming], out: &mut Vec<u8>) -> Result<(
 #[tactic(auto, unfolding(run_model::specs::LineTexts::tier_line))]
 fn write_tier(alloc: Global, number: u32, tier: &Tier, out: &mut Vec<u8>) -> Result<(), NoMemory>
     ensures ok { OnOk result (Adds out.old.items out.new.items
-        (tier_line number (tier_told tier.now.state))) }
+        (tier_line number (tier_status tier.now.state))) }
     ensures ended { OnOk result (begins_line out.new.items ≡ true) }
     ensures err { OnErr result (Begins out.old.items out.new.items) }
 {
@@ -53,7 +53,7 @@ fn write_tier(alloc: Global, number: u32, tier: &Tier, out: &mut Vec<u8>) -> Res
 /// load are in bytes.
 pub fn add_tier(alloc: Global, number: u32, tier: &Tier, out: &mut Vec<u8>) -> Result<(), NoMemory>
     ensures ok { OnOk result (Adds out.old.items out.new.items
-        (tier_line number (tier_told tier.now.state))) }
+        (tier_line number (tier_status tier.now.state))) }
     ensures ended { OnOk result (begins_line out.new.items ≡ true) }
     ensures err { OnErr result (out.new.items ≡ out.old.items) }
 {

@@ -4,7 +4,7 @@ use Rattle.script_model.specs.declared.orders.Order.{Order}
 use Rattle.tier_model.specs.declared.turns.Turn.{Turn}
 use Rattle.run_model.specs.Worlds.{World}
 use Rattle.run_model.specs.States.{State}
-use Rattle.run_model.specs.Lines.{TierTold, Did, Does}
+use Rattle.run_model.specs.Lines.{TierStatus, Did, Does}
 use Rattle.run_model.specs.LineTexts.{turn_line, turn_lines, tier_line, tier_lines, IsTextOf}
 
 -- the line does this in the state, and prints the text
@@ -24,7 +24,7 @@ unfolding turn_lines
 turn_more [] turn = append-nil (turn_line turn.0 turn.1)
 turn_more (t ∷ ts) turn = ap (λ (text : List ℕ). turn_line t.0 t.1 ++ text) (turn_more ts turn) ∙ sym (append_assoc (turn_line t.0 t.1) (turn_lines ts) (turn_line turn.0 turn.1))
 
-pub tier_more : (k n : ℕ) (tiers : List TierTold) (tier : TierTold) → k + length tiers ≡ n → tier_lines k (tiers ++ tier ∷ []) ≡ tier_lines k tiers ++ tier_line n tier
+pub tier_more : (k n : ℕ) (tiers : List TierStatus) (tier : TierStatus) → k + length tiers ≡ n → tier_lines k (tiers ++ tier ∷ []) ≡ tier_lines k tiers ++ tier_line n tier
 unfolding tier_lines
 tier_more k n [] tier is = append-nil (tier_line k tier) ∙ ap (λ (m : ℕ). tier_line m tier) (here k n is)
   where

@@ -47,7 +47,7 @@ pub record HaveOpened (index : IndexLists) (bytes : Option (List ℕ)) (tiers : 
 
 -- over an accepted mesh, the words of its patches, of which the base patches are there, seats where no session is open,
 -- and a board without views
-pub record BeginsOver (mesh : MeshLists) (words : PlainTokens) (seats : SeatsSeen) (board : BoardSeen) : Type 0 where
+pub record IsEmptyRun (mesh : MeshLists) (words : PlainTokens) (seats : SeatsSeen) (board : BoardSeen) : Type 0 where
   pub accepted : IsMesh mesh
   pub start : IsStart (length mesh.index.fields) (outgoing mesh.index.fields mesh.root) words
   pub closed : seats ≡ empty_seats mesh
@@ -229,7 +229,7 @@ module _ (mesh : MeshLists) (bytes : Option (List ℕ)) (tiers : List TierState)
   opens_by [] width opens = absurd (let some = are.some_tier in let none = ap length opens.is ∙ opened_count mesh.index opens.body [] width in omega arith)
   opens_by (budget ∷ budgets) width opens = opens_with opens.body opens.right budget budgets width opens.is
 
-pub opens_machine : (mesh : MeshLists) (bytes : Option (List ℕ)) (tiers : List TierState) (tokens : PlainTokens) (seats : SeatsSeen) (board : BoardSeen) → AreTiersOf mesh.index bytes tiers → HaveOpened mesh.index bytes tiers → BeginsOver mesh tokens seats board → OpensMachine mesh bytes tiers (words_seen tokens) seats board
+pub opens_machine : (mesh : MeshLists) (bytes : Option (List ℕ)) (tiers : List TierState) (tokens : PlainTokens) (seats : SeatsSeen) (board : BoardSeen) → AreTiersOf mesh.index bytes tiers → HaveOpened mesh.index bytes tiers → IsEmptyRun mesh tokens seats board → OpensMachine mesh bytes tiers (words_seen tokens) seats board
 opens_machine mesh bytes tiers tokens seats board are opened begins =
     let here = opens_by mesh bytes tiers tokens begins.accepted begins.start are opened.budgets opened.width opened.opens in
     subst (λ (s : SeatsSeen). OpensMachine mesh bytes tiers (words_seen tokens) s board) (sym begins.closed)

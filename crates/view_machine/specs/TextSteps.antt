@@ -12,7 +12,7 @@ use Rattle.cache_chain.specs.declared.parts.TurnLine.{TurnLine}
 use Rattle.cache_chain.specs.SettleRuns.{lines_of}
 use Rattle.run_model.specs.Worlds.{World}
 use Rattle.run_model.specs.States.{State}
-use Rattle.run_model.specs.Lines.{DidTurns, DidTell, DoesSettle, DoesStatus, tier_told}
+use Rattle.run_model.specs.Lines.{DidTurns, DidTell, DoesSettle, DoesStatus, tier_status}
 use Rattle.run_model.specs.LineTexts.{turn_line, turn_lines, tier_line, tier_lines}
 use Rattle.session_seats.specs.Seats.{SeatsSeen, state_of}
 use Rattle.view_machine.specs.LineTells.{DoesLine, turn_more, tier_more}
@@ -43,25 +43,25 @@ settles_text w a old new b f g t u text empty logs is = record {
   counts = logs.counts;
 }
 
-taken_count : (tiers : List TierState) (i : ℕ) → i < length tiers → 0 + length (map tier_told (take i tiers)) ≡ i
+taken_count : (tiers : List TierState) (i : ℕ) → i < length tiers → 0 + length (map tier_status (take i tiers)) ≡ i
 taken_count tiers i within =
-    let many = length-map (take i tiers) tier_told ∙ length-take-le i tiers (omega arith) in
+    let many = length-map (take i tiers) tier_status ∙ length-take-le i tiers (omega arith) in
     omega arith
 
-pub tier_text_more : (tiers : List TierState) (i : ℕ) (t : TierState) (before after : List ℕ) → slice_get tiers i ≡ Some t → before ≡ tier_lines 0 (map tier_told (take i tiers)) → Adds before after (tier_line i (tier_told t)) → after ≡ tier_lines 0 (map tier_told (take (i + 1) tiers))
+pub tier_text_more : (tiers : List TierState) (i : ℕ) (t : TierState) (before after : List ℕ) → slice_get tiers i ≡ Some t → before ≡ tier_lines 0 (map tier_status (take i tiers)) → Adds before after (tier_line i (tier_status t)) → after ≡ tier_lines 0 (map tier_status (take (i + 1) tiers))
 tier_text_more tiers i t before after at so_far adds =
     let within = slice_get_within tiers i t at in
     let here : get_or tiers i t ≡ t = get_or_from_slice_get tiers i t t at in
     adds.is
-    ∙ ap (λ (text : List ℕ). text ++ tier_line i (tier_told t)) so_far
-    ∙ sym (tier_more 0 i (map tier_told (take i tiers)) (tier_told t) (taken_count tiers i within))
-    ∙ ap (tier_lines 0) (sym (one_more tier_told tiers i t within ∙ ap (λ (s : TierState). map tier_told (take i tiers) ++ tier_told s ∷ []) here))
+    ∙ ap (λ (text : List ℕ). text ++ tier_line i (tier_status t)) so_far
+    ∙ sym (tier_more 0 i (map tier_status (take i tiers)) (tier_status t) (taken_count tiers i within))
+    ∙ ap (tier_lines 0) (sym (one_more tier_status tiers i t within ∙ ap (λ (s : TierState). map tier_status (take i tiers) ++ tier_status s ∷ []) here))
 
 -- the text of all tiers is that of the status
-pub status_text : (w : World) (tiers : List TierState) (words : List Entry) (seats : SeatsSeen) (board : BoardSeen) (i : ℕ) (text : List ℕ) → length tiers ≤ i → text ≡ tier_lines 0 (map tier_told (take i tiers)) → DoesLine w orders.Status (state_in tiers words seats board) (state_in tiers words seats board) text
+pub status_text : (w : World) (tiers : List TierState) (words : List Entry) (seats : SeatsSeen) (board : BoardSeen) (i : ℕ) (text : List ℕ) → length tiers ≤ i → text ≡ tier_lines 0 (map tier_status (take i tiers)) → DoesLine w orders.Status (state_in tiers words seats board) (state_in tiers words seats board) text
 unfolding state_of
 status_text w tiers words seats board i text all is = record {
-  did = DidTell (map tier_told tiers);
+  did = DidTell (map tier_status tiers);
   does = DoesStatus;
-  is = is ∙ ap (λ (ts : List TierState). tier_lines 0 (map tier_told ts)) (take_all i tiers all);
+  is = is ∙ ap (λ (ts : List TierState). tier_lines 0 (map tier_status ts)) (take_all i tiers all);
 }

@@ -9,6 +9,6 @@ mod refusals;
 mod sizes;
 
 pub use cache_chain::StartRefusal;
-pub use machines::{Beginning, Machine};
+pub use machines::{EmptyRun, Machine};
 pub use refusals::RunRefusal;
 pub use sizes::FrameSize;

@@ -14,7 +14,7 @@ mod opening;
 mod sessions;
 mod tiers;
 
-pub use opening::Beginning;
+pub use opening::EmptyRun;
 
 /// The state of a run: a chain of tiers, the words of its patches, the sessions at their seats, and the board
 /// of the views that they posted.

@@ -26,7 +26,7 @@ use arrayvec::ArrayVec;
 use cache_chain::Tier;
 use std::alloc::Global;
 use text_model::Status;
-use view_machine::{Beginning, Machine};
+use view_machine::{EmptyRun, Machine};
 use view_outside::{Sink, Source, Store};
 use view_script::{MOST_SCRIPT, Mode, Script, read_script};
 
@@ -57,7 +57,7 @@ fn run_script<S: Store, O: Sink>(
         result (O.written sink.old) (O.written sink.new) }
     ensures write_fault { OnlyIf WriteFault (Rose (O.faults sink.old) (O.faults sink.new)) result }
 {
-    let Ok(first) = Beginning::new(alloc, mesh) else {
+    let Ok(first) = EmptyRun::new(alloc, mesh) else {
         return Status::Memory;
     };
     let mut machine = Machine::over_tiers(first, mesh, tiers, store, file);

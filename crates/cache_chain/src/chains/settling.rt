@@ -13,7 +13,7 @@ ghost use Rattle.cache_chain.specs.SettleRuns.{MayTurn, LogsSettling, LogsStop};
 
 use super::TierChain;
 use crate::parts::TurnLine;
-use crate::settling::settle_tiers;
+use crate::tier_settling::settle_tiers;
 use grid_vertex::NoMemory;
 use std::alloc::Global;
 use tier_budget::Wishes;

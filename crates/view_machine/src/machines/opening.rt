@@ -11,7 +11,7 @@ ghost use Rattle.cache_chain.specs.declared.refusals.StartRefusal.TheVariants.{B
 ghost use Rattle.run_model.specs.Worlds.{IsWorld};
 ghost use Rattle.run_model.specs.Safe.{IsSafe};
 ghost use Rattle.view_machine.specs.Machines.{world_of, run_state};
-ghost use Rattle.view_machine.specs.Openings.{world_for, HaveOpened, BeginsOver, OpensOver};
+ghost use Rattle.view_machine.specs.Openings.{world_for, HaveOpened, IsEmptyRun, OpensOver};
 
 use crate::machines::Machine;
 use accepted_mesh::Mesh;
@@ -27,23 +27,23 @@ use wish_board::WishBoard;
 /// What a machine has beside its chain as it opens: the words of the patches, of which the base patches are
 /// there, seats where no session is open, and a board without views.
 #[derive(Drop)]
-pub struct Beginning<'a> {
+pub struct EmptyRun<'a> {
     words: PlainTokens,
     seats: Seats<'a>,
     board: WishBoard,
 }
 
-impl<'a> Beginning<'a> {
+impl<'a> EmptyRun<'a> {
     /// What a machine over the mesh begins with.
-    pub fn new(alloc: Global, mesh: &'a Mesh) -> Result<Beginning<'a>, NoMemory>
+    pub fn new(alloc: Global, mesh: &'a Mesh) -> Result<EmptyRun<'a>, NoMemory>
         ensures { IfOk result
-            (λ first. BeginsOver mesh.now.lists first.words first.seats first.board) }
+            (λ first. IsEmptyRun mesh.now.lists first.words first.seats first.board) }
     {
         let index = mesh.index();
         let words = PlainTokens::new(alloc, index.patch_count(), mesh.base())?;
         let seats = Seats::new(alloc, mesh)?;
         let board = WishBoard::new(alloc, mesh)?;
-        Ok(Beginning {
+        Ok(EmptyRun {
             words,
             seats,
             board,
@@ -57,13 +57,13 @@ impl<'a, S: Store> Machine<'a, S> {
     ///
     /// With `open_tiers` this is `start_wide` for a caller who lends the store only where the run opens.
     pub fn over_tiers(
-        first: Beginning<'a>,
+        first: EmptyRun<'a>,
         mesh: &'a Mesh,
         tiers: ArrayVec<Tier, 4, Global>,
         store: &'a mut S,
         file: u32,
     ) -> Machine<'a, S>
-        requires first { BeginsOver mesh.now.lists first.words first.seats first.board }
+        requires first { IsEmptyRun mesh.now.lists first.words first.seats first.board }
         requires file { HasFile (S.files store.old) file }
         requires are { AreTiersOf mesh.now.lists.index (file_bytes (S.files store.old) file)
             (states_of tiers.items) }
@@ -74,7 +74,7 @@ impl<'a, S: Store> Machine<'a, S> {
         ensures store { result.chain.store ≡ store.old }
         ensures lender { result.chain.lender ≡ store.entry.ghost_name }
     {
-        let Beginning {
+        let EmptyRun {
             words,
             seats,
             board,
@@ -181,7 +181,7 @@ impl<'a, S: Store> Machine<'a, S> {
         ensures lender { IfOk result (λ machine. machine.chain.lender ≡ store.entry.ghost_name) }
     {
         let tiers = open_tiers(alloc, mesh, budgets, width, store, file)?;
-        let first = Beginning::new(alloc, mesh)?;
+        let first = EmptyRun::new(alloc, mesh)?;
         Ok(Machine::over_tiers(first, mesh, tiers, store, file))
     }
 

@@ -5,7 +5,7 @@ ghost use Rattle.script_model.specs.declared.orders.Order.TheVariants as orders;
 ghost use Rattle.text_model.specs.Lines.{Adds};
 ghost use Rattle.tier_model.specs.Tiers.{TierState};
 ghost use Rattle.run_model.specs.Turning.{TurnsTo};
-ghost use Rattle.run_model.specs.Lines.{tier_told};
+ghost use Rattle.run_model.specs.Lines.{tier_status};
 ghost use Rattle.run_model.specs.LineTexts.{turn_lines, tier_line};
 ghost use Rattle.view_machine.specs.Machines.{world_of, run_state, KeepsPlace};
 ghost use Rattle.view_machine.specs.OwnStops.{StopsIn};
@@ -116,7 +116,7 @@ impl<'a, S: Store> Machine<'a, S> {
         requires { tier < length self.now.chain.tiers }
         ensures { OnOk result
             ((t : TierState) → slice_get self.now.chain.tiers tier ≡ Some t
-            → Adds out.old.items out.new.items (tier_line tier (tier_told t))) }
+            → Adds out.old.items out.new.items (tier_line tier (tier_status t))) }
     {
         add_tier(alloc, tier, self.chain.tier(tier), out)
     }

@@ -1,6 +1,6 @@
 use Rattle.file_model.specs.Reading.{node_at}
 use Rattle.patch_file.proofs.Many.{goes_on, stops, is_done}
-use Rattle.patch_file.proofs.units.nodes_of.Goals as goal
+use Rattle.patch_file.proofs.fields.nodes_of.Goals as goal
 
 pub returns-in-Err-clause-exact : goal.returns-in-Err-clause-exact
 returns-in-Err-clause-exact c = stops (node_at c.args.end) c.loop-v.nodes.items c.args.count c.loop-v.v c.loop-v.rest.now c.in-Err.fault _ c.loop-v-test.true c.in-Err.ensures c.loop-v.invariant

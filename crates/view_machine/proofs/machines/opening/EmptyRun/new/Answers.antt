@@ -5,7 +5,7 @@ use Rattle.file_model.specs.Lists.{IndexLists}
 use Rattle.mesh_model.specs.Graph.{leads_from, outgoing}
 use Rattle.token_words.specs.PlainTokens.{IsStart}
 use Rattle.body_loads.specs.PatchLists.{chosen_below}
-use Rattle.view_machine.proofs.machines.opening.Beginning.new.Goals as goal
+use Rattle.view_machine.proofs.machines.opening.EmptyRun.new.Goals as goal
 
 pub new-requires : goal.new-requires
 new-requires c =

@@ -9,7 +9,7 @@ use Rattle.view_outside.specs.Files.{Named}
 use Rattle.std.specs.Prelude.{Option}
 use Rattle.cache_chain.specs.SettleRuns.{MayTurn, LogsTier, LogsHalf, LogsStop}
 use Rattle.cache_chain.proofs.LogLaws.{half_begins, half_more, half_stops, half_ends, at_error}
-use Rattle.cache_chain.proofs.settling.settle_tiers.Goals as goal
+use Rattle.cache_chain.proofs.tier_settling.settle_tiers.Goals as goal
 
 pub loop-left-init : goal.loop-left-init
 loop-left-init g c = record {

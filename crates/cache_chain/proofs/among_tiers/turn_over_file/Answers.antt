@@ -7,7 +7,7 @@ use Rattle.transfer_step.specs.Supplies.{StorePlace, GivesFile, FindsInFile}
 use Rattle.cache_chain.specs.ChainStates.{IsFileBody, FindsChanged}
 use Rattle.cache_chain.specs.WordTurns.{TurnsStore}
 use Rattle.cache_chain.specs.AnswerMaps.{result_got_more, result_changed_more}
-use Rattle.cache_chain.proofs.turning.turn_over_file.Goals as goal
+use Rattle.cache_chain.proofs.among_tiers.turn_over_file.Goals as goal
 
 pub returns-clause-turns : goal.returns-clause-turns
 returns-clause-turns g c =

@@ -9,7 +9,7 @@ use Rattle.cache_chain.specs.ChainStates.{states_of, IsFileBody, FindsChanged}
 use Rattle.cache_chain.specs.WordTurns.{TurnsStore}
 use Rattle.cache_chain.proofs.ListParts.{tier_split, next_is, none_next, set_split, written_is}
 use Rattle.cache_chain.proofs.Neighbours.{over_tier, over_file}
-use Rattle.cache_chain.proofs.turning.turn_among.Goals as goal
+use Rattle.cache_chain.proofs.among_tiers.turn_among.Goals as goal
 
 pub turn_over_tier-requires-clause-sizes : goal.turn_over_tier-requires-clause-sizes
 turn_over_tier-requires-clause-sizes g c = sym (c.requires.sizes.each c.args.tier _ (tier_split c.args.tiers.now _ _ c.args.tier c.split_at_mut-upper.ensures.value c.split_at_mut-upper.ensures.front_len c.index-upper-place.result))

@@ -3,7 +3,7 @@ use Rattle.std.proofs.lemmas.Grind.{common_steps}
 use Rattle.view_outside.specs.Files.{ReadsFile}
 use Rattle.view_outside.specs.Taken.{taken_after, taken_after-taken_after}
 use Rattle.patch_file.proofs.Filling.{HasFilled-more}
-use Rattle.patch_file.proofs.reading.read_full.Goals as goal
+use Rattle.patch_file.proofs.full_reads.read_full.Goals as goal
 
 pub loop-filled-preserved : goal.loop-filled-preserved
 loop-filled-preserved g c = record {

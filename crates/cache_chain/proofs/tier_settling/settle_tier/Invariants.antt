@@ -6,7 +6,7 @@ use Rattle.cache_chain.specs.ChainStates.{states_of}
 use Rattle.cache_chain.specs.WordTurns.{words_of}
 use Rattle.cache_chain.specs.TurnRuns.{setting_of, moment_of}
 use Rattle.cache_chain.specs.SettleRuns.{MayTurn, LogsMidway}
-use Rattle.cache_chain.proofs.settling.settle_tier.Given as goal
+use Rattle.cache_chain.proofs.tier_settling.settle_tier.Given as goal
 
 abbrev pub invariant-loop-turn : goal.invariant-loop-turn
 invariant-loop-turn g l = record {

@@ -2,7 +2,7 @@
 use Rattle.std.proofs.Common.{arith}
 use Rattle.view_outside.specs.Faults.{Rose}
 use Rattle.cache_chain.specs.AnswerMaps.{result_fault_more}
-use Rattle.cache_chain.proofs.turning.turn_over_tier.Goals as goal
+use Rattle.cache_chain.proofs.among_tiers.turn_over_tier.Goals as goal
 
 pub returns-clause-turns : goal.returns-clause-turns
 returns-clause-turns g c = record {

@@ -2,7 +2,7 @@ use Rattle.std.proofs.Common.{length, ◌-◌, ◌≡◌, ◌≤◌}
 use Rattle.view_outside.specs.Files.{file_bytes}
 use Rattle.view_outside.specs.Taken.{taken_after}
 use Rattle.patch_file.proofs.Filling.{HasFilled}
-use Rattle.patch_file.proofs.reading.read_full.Given as goal
+use Rattle.patch_file.proofs.full_reads.read_full.Given as goal
 
 abbrev pub invariant-loop-filled : goal.invariant-loop-filled
 invariant-loop-filled g l = record {

@@ -1,6 +1,6 @@
 use Rattle.file_model.specs.Reading.{field_at}
 use Rattle.patch_file.proofs.Many.{goes_on, stops, is_done}
-use Rattle.patch_file.proofs.units.fields_of.Goals as goal
+use Rattle.patch_file.proofs.fields.fields_of.Goals as goal
 
 pub returns-in-Err-clause-exact : goal.returns-in-Err-clause-exact
 returns-in-Err-clause-exact c = stops (field_at c.args.nodes c.args.end) c.loop-patch.fields.items c.args.count c.loop-patch.patch c.loop-patch.rest.now c.in-Err.fault _ c.loop-patch-test.true c.in-Err.ensures c.loop-patch.invariant

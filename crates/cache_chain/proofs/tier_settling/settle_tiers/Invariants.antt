@@ -6,7 +6,7 @@ use Rattle.cache_chain.specs.ChainStates.{states_of}
 use Rattle.cache_chain.specs.WordTurns.{words_of}
 use Rattle.cache_chain.specs.TurnRuns.{setting_of, moment_of}
 use Rattle.cache_chain.specs.SettleRuns.{MayTurn, LogsHalf}
-use Rattle.cache_chain.proofs.settling.settle_tiers.Given as goal
+use Rattle.cache_chain.proofs.tier_settling.settle_tiers.Given as goal
 
 abbrev pub invariant-loop-left : goal.invariant-loop-left
 invariant-loop-left g l = record {

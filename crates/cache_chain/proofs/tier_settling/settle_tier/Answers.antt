@@ -13,7 +13,7 @@ use Rattle.tier_model.specs.declared.turns.Turn.TheVariants.{Idle}
 use Rattle.cache_chain.specs.TurnRuns.{MakesTurn, RefusesTurn}
 use Rattle.cache_chain.specs.SettleRuns.{MayTurn, LogsStop}
 use Rattle.cache_chain.proofs.LogLaws.{midway_starts, midway_more, midway_ends, midway_stops, midway_few, at_error}
-use Rattle.cache_chain.proofs.settling.settle_tier.Goals as goal
+use Rattle.cache_chain.proofs.tier_settling.settle_tier.Goals as goal
 
 pub loop-turn-init : goal.loop-turn-init
 loop-turn-init g c =
