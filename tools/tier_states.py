@@ -16,6 +16,11 @@ class Tier:
     def size(self, patch):
         return self.mesh.patches[patch].size
 
+    def renew(self):
+        """The views have changed."""
+        self.passed.clear()
+        self.aside.clear()
+
     def first_bare(self):
         return next((p for p, has_body in self.coming.items() if not has_body), None)
 
@@ -70,8 +75,9 @@ class Tier:
         lower = [p for p in self.held - self.pinned - self.passed if rank(p) < rank(candidate)]
         return min(lower, key=rank, default=None)
 
-    def turn(self, wishes, below, epochs, outcome):
-        """One turn's word and patch, where nobody uses a word; `outcome(patch)` is what came of a fetch of the store."""
+    def turn(self, wishes, below, epochs, outcome, uses=lambda patch: 0):
+        """One turn's word and patch. `outcome(patch)` is what came of a fetch of the store, and `uses(patch)` tells how
+        many sessions use it in the top tier."""
         candidate = self.candidate(wishes, below, epochs)
         if candidate is not None and len(self.coming) < self.width and self.load + self.size(candidate) <= self.budget:
             return self.make("reserve", candidate)
@@ -81,6 +87,9 @@ class Tier:
         if self.coming:
             return self.make("commit", self.first(), epochs)
         victim = None if candidate is None else self.victim(wishes, candidate)
+        if victim is not None and epochs is not None and uses(victim):
+            self.passed.add(victim)
+            return "kept", victim
         if victim is not None:
             return self.make("evict", victim, epochs)
         self.passed.clear()
