@@ -13,6 +13,7 @@ pub trait Member {
     ghost use Rattle.token_words.specs.declared.answers.Evict.TheVariants.{Gone};
     ghost use Rattle.token_words.specs.declared.keeping.TheConstants.{LAST_EPOCH};
     ghost use Rattle.token_table.specs.declared.knowledge.Desk.{Desk};
+    ghost use Rattle.token_table.specs.Known.{IsDesk};
     ghost use Rattle.token_table.specs.Changes.{with_risen, after_eviction};
 
     /// Whether there are words.
@@ -26,6 +27,12 @@ pub trait Member {
 
     /// What the seat knows, if it has words.
     ghost desk: { Self → Desk };
+
+    /// How many patches have a word, and 0 without words. What the seat knows of them fits together.
+    fn word_count(&self) -> usize
+        ensures count { has_words ≡ true → result ≡ length (desk self.now).epochs }
+        ensures without { has_words ≡ false → result ≡ 0 }
+        ensures fits { has_words ≡ true → IsDesk (desk self.now) };
 
     /// The epoch of a patch, and 0 without words.
     fn word_epoch(&self, patch: u32) -> u32
@@ -72,6 +79,10 @@ impl Member for KeeperSeat {
 
     ghost desk = { λ seat. seat.desk };
 
+    fn word_count(&self) -> usize {
+        self.patch_count()
+    }
+
     fn word_epoch(&self, patch: u32) -> u32 {
         self.epochs[patch as usize]
     }
@@ -102,6 +113,10 @@ impl Member for TierSeat {
     ghost home = { λ _ table. table };
 
     ghost desk = { λ _. no_desk };
+
+    fn word_count(&self) -> usize {
+        0
+    }
 
     fn word_epoch(&self, _patch: u32) -> u32 {
         0
