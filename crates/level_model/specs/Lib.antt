@@ -1,0 +1,9 @@
+pub mod Levels
+pub mod LevelTurns
+pub mod TurnCounts
+pub mod KeptTops
+pub mod KeptFloors
+pub mod LevelFacts
+pub mod LevelLaws
+pub mod FirstLevels
+pub mod LevelLists
