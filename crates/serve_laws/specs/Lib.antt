@@ -1,0 +1,4 @@
+pub mod ServedSeats
+pub mod ServedRounds
+pub mod OneServed
+pub mod JournalLoads
