@@ -1,0 +1,4 @@
+pub mod SettledViews
+pub mod RestLaws
+pub mod FrameLines
+pub mod DetailLaws

@@ -1,0 +1,5 @@
+pub mod Resting
+pub mod Rejoins
+pub mod RestingLaws
+pub mod JoinLaws
+pub mod RejoinLaws
