@@ -1,9 +1,9 @@
 -- What readers read behind each other, and what a reader reads of a whole text.
-use Rattle.std.proofs.Common.{◌≡◌, ℕ, zero, suc, ◌+◌, ◌↔◌, List, [], ◌∷◌, ◌++◌, Result, Ok, Err, refl, sym, ap, subst, ◌∙◌, append-nil}
+use Rattle.std.proofs.Common.{◌≡◌, ℕ, zero, suc, ◌+◌, ◌↔◌, List, [], ◌∷◌, ◌++◌, Result, Ok, Err, refl, sym, ap, subst, ◌∙◌, append_assoc, append-nil, zero-add, arith}
 use Rattle.audit_lines.specs.declared.faults.AuditFault.{AuditFault}
 use Rattle.audit_lines.specs.Places.{Place, place_at, start_of, line_feeds, IsBehind, fault_at_end}
 use Rattle.audit_lines.specs.Readers.{Read, Answer, Reader, found, by_read, then_read, read_each, read_times, value_at_end, ended, read_whole, Relation, IsThen, AreEach, AreTimes, Sound, Reads}
-use Rattle.audit_lines.specs.TextLaws.{behind_both, place_between}
+use Rattle.audit_lines.specs.TextLaws.{line_feeds-append, behind_both, place_between}
 use Rattle.audit_lines.specs.ReaderLaws.{nothing_reads}
 
 -- the first reader's value, and what the next one gave
@@ -72,6 +72,46 @@ times_reads one Is Good reads keeps zero s good = nothing_reads s
 times_reads one Is Good reads keeps (suc times) s good =
     then_reads (one s) (read_times one times) (Is s) (AreTimes Is times) (reads s good)
     (λ line t text is. times_reads one Is Good reads keeps times t (keeps s t line text good is))
+
+-- one more text behind so many
+pub times_one_more : {S : Type 0} (Is : S → Relation S) (times : ℕ) (s t u : S) (line : ℕ) (front back : List ℕ)
+    → AreTimes Is times s line t front → Is t (line_feeds front + line) u back
+    → AreTimes Is (suc times) s line u (front ++ back)
+times_one_more {S} Is zero s t u line front back none more =
+    let here : Is s line u back =
+    subst (λ (v : S). Is v line u back) none.value
+    (subst (λ (n : ℕ). Is t n u back)
+    (ap (λ (bytes : List ℕ). line_feeds bytes + line) none.is ∙ zero-add line) more) in
+    record {
+      value = u;
+      front = back;
+      back = [];
+      first = here;
+      next = record { value = refl; is = refl };
+      is = ap (λ (bytes : List ℕ). bytes ++ back) none.is ∙ sym (append-nil back);
+    }
+times_one_more {S} Is (suc times) s t u line front back then more =
+    let after : line_feeds front + line ≡ line_feeds then.back + (line_feeds then.front + line) =
+    let both = line_feeds-append then.front then.back in let same = ap line_feeds then.is in omega arith in
+    record {
+      value = then.value;
+      front = then.front;
+      back = then.back ++ back;
+      first = then.first;
+      next = times_one_more Is times then.value t u (line_feeds then.front + line) then.back back then.next
+          (subst (λ (n : ℕ). Is t n u back) after more);
+      is = ap (λ (bytes : List ℕ). bytes ++ back) then.is ∙ append_assoc then.front then.back back;
+    }
+
+-- a relation that says the same of each value and text belongs to the same reader
+pub reads_as : {X : Type 0} (reader : Reader X) (Is Same : Relation X) → Reads reader Is
+    → ((line : ℕ) (x : X) (text : List ℕ) → Is line x text → Same line x text)
+    → ((line : ℕ) (x : X) (text : List ℕ) → Same line x text → Is line x text) → Reads reader Same
+reads_as reader Is Same reads there back = record {
+  sound = λ p read is. let was = reads.sound p read is in record
+      { text = was.text; is = there p.line read.value was.text was.is; behind = was.behind };
+  complete = λ p q x text is behind. reads.complete p q x text (back p.line x text is) behind;
+}
 
 -- ---- a whole text
 

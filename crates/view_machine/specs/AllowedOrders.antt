@@ -1,52 +1,18 @@
 -- What a machine gives to an order that a script may have.
-use Rattle.std.proofs.Common.{◌≡◌, ℕ, ◌<◌, ◌&&◌, Bool, true, false, not, List, Option, Some, None, refl}
+use Rattle.std.proofs.Common.{◌≡◌, ℕ, ◌<◌, ◌&&◌, true, false, List, Option, Some, None, refl}
 use Rattle.std.proofs.lemmas.Bool.{and_parts, leb-true, leb-false}
 use Rattle.std.specs.Prelude.{nat_le}
 use Rattle.round_model.specs.Views.{ViewSeen}
 use Rattle.script_model.specs.declared.orders.Order.{Order}
 use Rattle.script_model.specs.declared.orders.Order.TheVariants as orders
-use Rattle.script_model.specs.Histories.{History, is_open, is_viewed}
-use Rattle.script_model.specs.OrderFaults.{names_no_session, opens_again, names_closed, lacks_view, names_no_tier, allows}
+use Rattle.script_model.specs.Allowed.{finds_none, holds}
+use Rattle.script_model.specs.Histories.{is_open, is_viewed}
+use Rattle.script_model.specs.OrderFaults.{allows}
 use Rattle.session_model.specs.Sessions.{SessionState}
 use Rattle.token_words.specs.Sessions.{IsSession}
 use Rattle.token_words.specs.declared.session_sets.TheConstants.{SESSIONS}
 use Rattle.session_seats.specs.Seats.{at_seat, IsOpen, HasView}
 use Rattle.view_machine.specs.LineEnds.{viewed_stage, stage_of, stages_in}
-
--- ---- the tests of an order
-
--- no test found a fault
-record FindsNone (tiers : ℕ) (history : History) (order : Order) : Type 0 where
-  number : names_no_session order ≡ false
-  apart : opens_again history order ≡ false
-  there : names_closed history order ≡ false
-  viewed : lacks_view history order ≡ false
-  tier : names_no_tier tiers order ≡ false
-
-record AreFalse (a b c d e : Bool) : Type 0 where
-  first : a ≡ false
-  second : b ≡ false
-  third : c ≡ false
-  fourth : d ≡ false
-  fifth : e ≡ false
-
-all_false : (a b c d e : Bool) → (not a && not b && not c && not d && not e) ≡ true → AreFalse a b c d e
-all_false true b c d e is = absurd (cc)
-all_false false true c d e is = absurd (cc)
-all_false false false true d e is = absurd (cc)
-all_false false false false true e is = absurd (cc)
-all_false false false false false true is = absurd (cc)
-all_false false false false false false is = record { first = refl; second = refl; third = refl; fourth = refl; fifth = refl }
-
-finds_none : (tiers : ℕ) (history : History) (order : Order) → allows tiers history order ≡ true → FindsNone tiers history order
-unfolding allows
-finds_none tiers history order allowed =
-    let none = all_false (names_no_session order) (opens_again history order) (names_closed history order) (lacks_view history order) (names_no_tier tiers order) allowed in
-    record { number = none.first; apart = none.second; there = none.third; viewed = none.fourth; tier = none.fifth }
-
-holds : (test : Bool) → not test ≡ false → test ≡ true
-holds true is = refl
-holds false is = absurd (cc)
 
 -- ---- sessions
 

@@ -10,6 +10,7 @@ use Rattle.tier_model.specs.declared.turns.Turn.{Turn}
 use Rattle.tier_model.specs.declared.turns.Turn.TheVariants.{Reserve, Evict, Kept, Got, Lost, Fault, Changed, Commit, Idle}
 use Rattle.tier_model.specs.Answers.{IfFault, IfChanged}
 use Rattle.tier_model.specs.Counts.{bytes_got, got_bytes, is_fault, faults_in}
+use Rattle.tier_model.specs.JournalCounts.{faults-append, got-append}
 use Rattle.tier_model.specs.Ranks.{Posted}
 use Rattle.tier_model.specs.Tiers.{TierState, sizes_of}
 use Rattle.view_outside.specs.Faults.{Rose, RoseBy, RoseBy-sum}
@@ -37,16 +38,6 @@ unfolding lowest_turns
 lowest_both w [] last = refl
 lowest_both w (t ∷ ts) last = if_both (is_lowest w t.0) t.1 (lowest_turns w (ts ++ last)) (lowest_turns w ts) (lowest_turns w last) (lowest_both w ts last)
 
-faults_both : (first last : List Turn) → faults_in (first ++ last) ≡ faults_in first + faults_in last
-unfolding faults_in
-faults_both [] last = omega arith
-faults_both (t ∷ ts) last = let rest = faults_both ts last in omega arith
-
-bytes_both : (sizes : List ℕ) (first last : List Turn) → got_bytes sizes (first ++ last) ≡ got_bytes sizes first + got_bytes sizes last
-unfolding got_bytes
-bytes_both sizes [] last = omega arith
-bytes_both sizes (t ∷ ts) last = let rest = bytes_both sizes ts last in omega arith
-
 no_failure_first : (first last : List (ℕ × Turn)) → HasNoFailure (first ++ last) → HasNoFailure first
 no_failure_first [] last none = tt
 no_failure_first (t ∷ ts) last none = (none.0, no_failure_first ts last none.1)
@@ -64,8 +55,8 @@ counts_both w first last f g h t u v before after =
     let lows = lowest_turns w first in
     let more = lowest_turns w last in
     let sizes = sizes_of w.mesh.index in
-    let faults : faults_in (lowest_turns w (first ++ last)) ≡ faults_in lows + faults_in more = ap faults_in (lowest_both w first last) ∙ faults_both lows more in
-    let bytes : got_bytes sizes (lowest_turns w (first ++ last)) ≡ got_bytes sizes lows + got_bytes sizes more = ap (got_bytes sizes) (lowest_both w first last) ∙ bytes_both sizes lows more in
+    let faults : faults_in (lowest_turns w (first ++ last)) ≡ faults_in lows + faults_in more = ap faults_in (lowest_both w first last) ∙ faults-append lows more in
+    let bytes : got_bytes sizes (lowest_turns w (first ++ last)) ≡ got_bytes sizes lows + got_bytes sizes more = ap (got_bytes sizes) (lowest_both w first last) ∙ got-append sizes lows more in
     record {
       faults = subst (λ (n : ℕ). RoseBy n f h) (sym faults) (RoseBy-sum (faults_in lows) (faults_in more) f g h before.faults after.faults);
       unchanged = λ tells. no_change_both first last (before.unchanged tells) (after.unchanged tells);

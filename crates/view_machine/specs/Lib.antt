@@ -18,7 +18,14 @@ pub mod TurnKeeps
 pub mod FrameLines
 pub mod FrameSeats
 pub mod LineOutputs
+pub mod EmptyStates
 pub mod Openings
+pub mod RestMachines
+pub mod RejoinLines
 pub mod RunEnds
 pub mod RunLines
 pub mod FrameSizes
+pub mod ShownSeen
+pub mod ShownFrames
+pub mod FastBodies
+pub mod TurnRounds

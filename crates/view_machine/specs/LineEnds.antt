@@ -1,17 +1,15 @@
 -- How a line ends: what it did and printed, or why the run stops.
-use Rattle.std.specs.Prelude.{◌≡◌, ℕ, ◌+◌, ◌^◌, ◌<◌, ◌≤◌, List, Option, None, Some}
+use Rattle.std.specs.Prelude.{◌≡◌, ℕ, ◌+◌, ◌^◌, ◌<◌, ◌≤◌, List, Option}
 use Rattle.std.specs.Option.{option_map_or}
 use Rattle.view_outside.specs.Written.{WritesPart}
-use Rattle.round_model.specs.Views.{ViewSeen}
 use Rattle.script_model.specs.declared.orders.Order.{Order}
-use Rattle.script_model.specs.declared.stages.SessionStage.{SessionStage}
-use Rattle.script_model.specs.declared.stages.SessionStage.TheVariants.{Closed, Opened, Viewed}
 use Rattle.script_model.specs.Histories.{History}
 use Rattle.session_model.specs.Sessions.{SessionState}
 use Rattle.view_outside.specs.Faults.{Rose, RoseBy}
 use Rattle.view_outside.specs.Streams.{appended}
 use Rattle.view_outside.specs.Taken.{taken_after}
 use Rattle.run_model.specs.Worlds.{World}
+pub use Rattle.live_model.specs.Places.{viewed_stage, stage_of}
 use Rattle.run_model.specs.States.{State}
 use Rattle.run_model.specs.Lines.{Did, Does}
 use Rattle.run_model.specs.LineTexts.{IsTextOf}
@@ -24,16 +22,6 @@ use Rattle.view_machine.specs.OwnStops.{StopsIn}
 use Rattle.view_machine.specs.LineCounts.{HasNoFailure, HasNoChange, TellsBodies}
 
 -- ---- how far the sessions have come
-
--- how far an open session has come that sees this
-abbrev pub viewed_stage : Option ViewSeen → SessionStage
-viewed_stage None = Opened
-viewed_stage (Some view) = Viewed
-
--- how far the session at a seat has come
-abbrev pub stage_of : Option SessionState → SessionStage
-stage_of None = Closed
-stage_of (Some s) = viewed_stage s.view
 
 abbrev pub stages_in : List (Option SessionState) → History
 stages_in sessions i = stage_of (at_seat sessions i)

@@ -86,32 +86,32 @@ counted w order a b text faults faults_now taken taken_now none later same line 
 
 -- ---- results
 
-on_ok : {T E P : Type 0} (result : Result T E) → P → OnOk result P
+pub on_ok : {T E P : Type 0} (result : Result T E) → P → OnOk result P
 on_ok (Ok x) p = p
 on_ok (Err e) p = tt
 
-either_way : {T E P Q R : Type 0} (result : Result T E) → (P → R) → (Q → R) → OnOk result P → OnErr result Q → R
+pub either_way : {T E P Q R : Type 0} (result : Result T E) → (P → R) → (Q → R) → OnOk result P → OnErr result Q → R
 either_way (Ok x) first second p q = first p
 either_way (Err e) first second p q = second q
 
 -- ---- a machine that is as it was
 
 module _ {S : Type 0} (old new : MachineSeen S) where
-  frames_same : new.seats ≡ old.seats → FramesRise old new
+  pub frames_same : new.seats ≡ old.seats → FramesRise old new
   frames_same same = record {
     rise = λ i. let is : frames_at new.seats.sessions i ≡ frames_at old.seats.sessions i = ap (λ (seats : SeatsSeen). frames_at seats.sessions i) same in omega (arith, is);
   }
 
-  version_same : new.board ≡ old.board → new.board.version ≤ old.board.version + 1
+  pub version_same : new.board ≡ old.board → new.board.version ≤ old.board.version + 1
   version_same same = let is : new.board.version ≡ old.board.version = ap (λ (board : BoardSeen). board.version) same in omega (arith, is)
 
-  history_same : new.seats ≡ old.seats → history_of new ≡ history_of old
+  pub history_same : new.seats ≡ old.seats → history_of new ≡ history_of old
   history_same same = ap (λ (seats : SeatsSeen). stages_in seats.sessions) same
 
   stops_there : (order : Order) → new ≡ old → StopsIn (world_of old) (run_state old) order (run_state new)
   stops_there order same = subst (λ (m : MachineSeen S). StopsIn (world_of old) (run_state old) order (run_state m)) (sym same) AtStart
 
-  many_tiers : KeepsPlace old new → length new.chain.tiers ≡ length old.chain.tiers
+  pub many_tiers : KeepsPlace old new → length new.chain.tiers ≡ length old.chain.tiers
   many_tiers place =
       sym (length-map new.chain.tiers (λ (t : TierState). t.budget)) ∙ ap (λ (w : World). length w.budgets) place.world ∙ length-map old.chain.tiers (λ (t : TierState). t.budget)
 
@@ -130,13 +130,13 @@ module _ {S T E : Type 0} (files : S → Option (List Named)) (faults taken : S 
   abbrev Stopped : Order → Type 0
   Stopped order = OnErr result (StopsIn (world_of old) (run_state old) order (run_state new))
 
-  abbrev Sets : ℕ → Option SessionTold → Type 0
+  abbrev pub Sets : ℕ → Option SessionTold → Type 0
   Sets i value = SetAt (told_at old.seats.sessions) i value (told_at new.seats.sessions)
 
-  rises : (i : ℕ) (value : Option SessionTold) → Sets i value → told_frames value ≤ frames_at old.seats.sessions i + 1 → FramesRise old new
+  pub rises : (i : ℕ) (value : Option SessionTold) → Sets i value → told_frames value ≤ frames_at old.seats.sessions i + 1 → FramesRise old new
   rises i value sets most = record { rise = frames_set old.seats.sessions new.seats.sessions i value sets most }
 
-  rises_still : Stays (told_at old.seats.sessions) (told_at new.seats.sessions) → FramesRise old new
+  pub rises_still : Stays (told_at old.seats.sessions) (told_at new.seats.sessions) → FramesRise old new
   rises_still stays = record { rise = frames_stay old.seats.sessions new.seats.sessions stays }
 
   seat_line : (order : Order) → is_turning order ≡ false → new.chain ≡ old.chain → Line order → IfOk result (λ x. DoesCounted (world_of old) order (run_state old) (run_state new) (text x) (faults old.chain.store) (faults new.chain.store) (taken old.chain.store) (taken new.chain.store))
@@ -144,7 +144,7 @@ module _ {S T E : Type 0} (files : S → Option (List Named)) (faults taken : S 
       let is : faults new.chain.store ≡ faults old.chain.store = ap (λ (c : ChainSeen S). faults c.store) same in
       if_ok_then result (λ x does. counted (world_of old) order (run_state old) (run_state new) (text x) (faults old.chain.store) (faults new.chain.store) (taken old.chain.store) (taken new.chain.store) none (omega (arith, is)) (ap (λ (c : ChainSeen S). taken c.store) same) does) line
 
-  seat_keeps : KeepsPlace old new → new.chain ≡ old.chain → new.board.version ≤ old.board.version + 1 → FramesRise old new → LineKeeps old new (files old.chain.store) (files new.chain.store) (faults old.chain.store) (faults new.chain.store)
+  pub seat_keeps : KeepsPlace old new → new.chain ≡ old.chain → new.board.version ≤ old.board.version + 1 → FramesRise old new → LineKeeps old new (files old.chain.store) (files new.chain.store) (faults old.chain.store) (faults new.chain.store)
   seat_keeps place same version frames =
       let is : faults new.chain.store ≡ faults old.chain.store = ap (λ (c : ChainSeen S). faults c.store) same in
       record {
@@ -239,7 +239,7 @@ module _ {S T E : Type 0} (files : S → Option (List Named)) (faults taken : S 
   abbrev Counted : Order → Type 0
   Counted order = IfOk result (λ x. DoesCounted (world_of old) order (run_state old) (run_state new) (text x) (faults old.chain.store) (faults new.chain.store) (taken old.chain.store) (taken new.chain.store))
 
-  tier_keeps : KeepsPlace old new → new.seats ≡ old.seats → new.board ≡ old.board → files new.chain.store ≡ files old.chain.store → faults old.chain.store ≤ faults new.chain.store → LineKeeps old new (files old.chain.store) (files new.chain.store) (faults old.chain.store) (faults new.chain.store)
+  pub tier_keeps : KeepsPlace old new → new.seats ≡ old.seats → new.board ≡ old.board → files new.chain.store ≡ files old.chain.store → faults old.chain.store ≤ faults new.chain.store → LineKeeps old new (files old.chain.store) (files new.chain.store) (faults old.chain.store) (faults new.chain.store)
   tier_keeps place seats board same later = record {
     place = place;
     files = same;

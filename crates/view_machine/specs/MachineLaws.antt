@@ -3,7 +3,9 @@ use Rattle.std.proofs.Common.{◌≡◌, ℕ, suc, ◌≤◌, List, [], ◌∷�
 use Rattle.std.specs.Prelude.{slice_get}
 use Rattle.std.proofs.lemmas.Option.{same_Some}
 use Rattle.file_model.specs.declared.fields.PatchField.{PatchField}
+use Rattle.file_model.specs.Lists.{BodyLists}
 use Rattle.mesh_model.specs.Meshes.{MeshLists}
+use Rattle.body_loads.specs.ToldBodies.{told_bodies}
 use Rattle.token_words.specs.Changes.{Stays}
 use Rattle.token_words.specs.PlainTokens.{epoch_in, is_pinned_in}
 use Rattle.token_words.specs.declared.entries.Entry.{Entry}
@@ -18,7 +20,7 @@ use Rattle.wish_board.specs.Boards.{BoardSeen, board_wish}
 use Rattle.cache_chain.specs.Turning.{chain_of, AllKeepWishes}
 use Rattle.run_model.specs.Worlds.{World, is_base, IsWorld}
 use Rattle.run_model.specs.States.{State, board_of}
-use Rattle.run_model.specs.Safe.{IsSafe}
+use Rattle.run_model.specs.Safe.{IsSetUp, IsSafe}
 use Rattle.run_laws.specs.Sound.{IsSound, safe_sound}
 use Rattle.run_model.specs.Kept.{TakeWishes}
 use Rattle.session_seats.specs.Boards.{IsBoardFor}
@@ -49,14 +51,21 @@ width_is : (tiers : List TierState) (width : ℕ) → 1 ≤ length tiers → ((k
 width_is [] width some_tier same = absurd (omega arith)
 width_is (t ∷ ts) width some_tier same = same 0 t refl
 
--- a safe state tells its world's budgets and width
+-- tiers of a world tell its budgets and its width
+pub world_told : (w : World) (bytes : Option (List ℕ)) (tiers : List TierState) → 1 ≤ length w.budgets
+    → length tiers ≡ length w.budgets → ((k : ℕ) (t : TierState) → slice_get tiers k ≡ Some t → IsSetUp w k t)
+    → w.bodies ≡ told_bodies w.mesh.index bytes → world_with w.mesh bytes tiers ≡ w
+world_told w bytes tiers some_tier many set_up told =
+    let budgets = budgets_are tiers w.budgets many (λ k t at. (set_up k t at).budget) in
+    let width = width_is tiers w.width (subst (λ (n : ℕ). 1 ≤ n) (sym many) some_tier) (λ k t at. (set_up k t at).width) in
+    ap₂ (λ (bs : List ℕ) (n : ℕ). record { mesh = w.mesh; bodies = told_bodies w.mesh.index bytes; budgets = bs; width = n }) budgets width
+    ∙ ap (λ (bodies : Option (List BodyLists)). record w { bodies = bodies }) (sym told)
+
+-- so do those of a safe state
 pub world_stays : (mesh : MeshLists) (bytes : Option (List ℕ)) (tiers now : List TierState) (b : State) → IsWorld (world_with mesh bytes tiers) → b.chain.tiers ≡ now → IsSafe (world_with mesh bytes tiers) b → world_with mesh bytes now ≡ world_with mesh bytes tiers
 world_stays mesh bytes tiers now b world is safe =
-    let w = world_with mesh bytes tiers in
-    let budgets = budgets_are b.chain.tiers w.budgets safe.many (λ k t at. (safe.set_up k t at).budget) in
-    let width = width_is b.chain.tiers w.width (subst (λ (n : ℕ). 1 ≤ n) (sym safe.many) world.some_tier) (λ k t at. (safe.set_up k t at).width) in
     ap (world_with mesh bytes) (sym is)
-    ∙ ap₂ (λ (bs : List ℕ) (n : ℕ). record w { budgets = bs; width = n }) budgets width
+    ∙ world_told (world_with mesh bytes tiers) bytes b.chain.tiers world.some_tier safe.many safe.set_up refl
 
 -- ---- what a turn asks for
 

@@ -1,26 +1,21 @@
 -- How a machine opens: over a chain that has just opened, with sessions that are closed and a board without views.
-use Rattle.std.proofs.Common.{◌≡◌, ℕ, zero, suc, ◌+◌, ◌≤◌, Bool, true, false, List, [], ◌∷◌, length, map, replicate, Option, Some, None, is_some, refl, sym, ap, ap₂, subst, ◌∙◌, arith}
-use Rattle.std.specs.Prelude.{slice_get, slice_index_or, if◌then◌else◌}
+use Rattle.std.proofs.Common.{◌≡◌, ℕ, zero, suc, ◌+◌, ◌≤◌, Bool, true, List, [], ◌∷◌, length, map, Option, Some, None, is_some, refl, sym, ap, ap₂, subst, ◌∙◌, arith}
+use Rattle.std.specs.Prelude.{slice_get, if◌then◌else◌}
 use Rattle.std.proofs.Math.Path.{fun_ext}
-use Rattle.std.proofs.lemmas.List.{length-replicate}
 use Rattle.std.proofs.lemmas.Option.{same_Some}
 use Rattle.file_model.specs.Lists.{IndexLists, SeenBody}
 use Rattle.mesh_model.specs.Graph.{outgoing}
 use Rattle.mesh_model.specs.Meshes.{MeshLists, IsMesh}
-use Rattle.session_model.specs.Sessions.{SessionState}
-use Rattle.token_words.specs.PlainTokens.{words_seen, epoch_in, is_user_in, IsStart}
+use Rattle.token_words.specs.PlainTokens.{words_seen, epoch_of, IsStart}
 use Rattle.token_words.specs.declared.entries.Entry.{Entry}
 use Rattle.token_words.specs.declared.plain_words.PlainTokens.{PlainTokens}
-use Rattle.token_words.specs.declared.session_sets.TheConstants.{SESSIONS}
 use Rattle.tier_model.specs.Places.{is_marked, marked_bytes, load_of}
 use Rattle.tier_model.specs.Tiers.{TierState, load, IsTier, IsBodyFor, sizes_of, base_marks}
-use Rattle.tier_model.specs.Ranks.{Posted}
 use Rattle.tier_model.specs.Changes.{fresh}
 use Rattle.tier_model.specs.Chains.{bodies_at, opened_top, opened_tiers, opened}
 use Rattle.tier_laws.specs.BodyLaws.{marks_of}
 use Rattle.tier_laws.specs.OpeningLaws.{load_of_held}
 use Rattle.wish_board.specs.Boards.{BoardSeen, empty_board}
-use Rattle.wish_board.specs.BoardLaws.{fits_empty}
 use Rattle.accepted_mesh.specs.MeshView.{MeshSeen}
 use Rattle.cache_chain.specs.BaseLaws.{base_listed}
 use Rattle.cache_chain.specs.ChainStates.{IsFileBody, AreTiersOf}
@@ -29,12 +24,13 @@ use Rattle.run_model.specs.Worlds.{World, IsWorld, HoldsBase, AreBaseBodies}
 use Rattle.run_model.specs.States.{State, opening}
 use Rattle.run_model.specs.Safe.{IsSafe}
 use Rattle.run_model.specs.Kept.{TakeWishes}
+use Rattle.resumed_model.specs.Resting.{resting}
 use Rattle.run_laws.specs.KeptLaws.{opening_kept}
 use Rattle.run_laws.specs.OpeningLaws.{base_is_marked, opened_count, opening_safe}
 use Rattle.run_model.specs.RunTexts.{IsOpening}
-use Rattle.session_seats.specs.Boards.{IsBoardFor}
-use Rattle.session_seats.specs.Seats.{SeatsSeen, at_seat, empty_seats, state_of}
+use Rattle.session_seats.specs.Seats.{SeatsSeen, empty_seats}
 use Rattle.session_seats.specs.StartLaws.{none_seated}
+use Rattle.view_machine.specs.EmptyStates.{board_for, empty_state}
 use Rattle.view_machine.specs.Machines.{MachineSeen, world_with, world_of, width_of, state_in, run_state, IsMachine}
 use Rattle.body_loads.specs.ToldBodies.{told_bodies}
 use Rattle.view_machine.specs.WorldBodies.{world_body}
@@ -126,21 +122,6 @@ pub opened_world : (mesh : MeshLists) (bytes : Option (List ℕ)) (tiers : List 
 opened_world mesh bytes tiers [] width some_budget opens = absurd (omega arith)
 opened_world mesh bytes tiers (budget ∷ budgets) width some_budget opens = world_is mesh bytes tiers opens.body budget budgets width opens.is
 
--- ---- the seats and the board
-
-nothing_in : (X : Type 0) (n i : ℕ) → slice_index_or (replicate {A = Option X} n None) i None ≡ None
-nothing_in X zero i = refl
-nothing_in X (suc n) zero = refl
-nothing_in X (suc n) (suc i) = nothing_in X n i
-
-nothing_at : (X : Type 0) (n i : ℕ) → at_seat (replicate {A = Option X} n None) i ≡ None
-nothing_at X n zero = refl
-nothing_at X n (suc i) = nothing_in X n i
-
-board_for : (mesh : MeshLists) → IsBoardFor mesh (empty_board mesh)
-unfolding empty_board
-board_for mesh = record { fits = fits_empty mesh; many = length-replicate {A = Option Posted} SESSIONS None }
-
 -- ---- the machine
 
 -- the run opens here, in a world, and the tiers have taken the board's wishes
@@ -184,20 +165,12 @@ module _ (mesh : MeshLists) (bytes : Option (List ℕ)) (tiers : List TierState)
     }
 
     state_is : a ≡ opening w body
-    unfolding state_of opening opened empty_board
+    unfolding resting opening opened
     state_is =
-        let make : List TierState → (ℕ → ℕ) → (ℕ → ℕ → Bool) → (ℕ → Option SessionState) → (ℕ → Option Posted) → State = λ ts epochs users sessions posted. record { chain = record { tiers = ts; epochs = epochs }; users = users; sessions = sessions; posted = posted; version = 0 } in
-        let words = words_seen tokens in
-        let first : ℕ → ℕ = λ p. if is_marked (base_marks mesh.index.fields) p then 1 else 0 in
-        let seats : ℕ → Option SessionState = at_seat (empty_seats mesh).sessions in
-        let views : ℕ → Option Posted = at_seat (empty_board mesh).views in
-        let nobody : ℕ → Option SessionState = λ i. None in
-        let no_view : ℕ → Option Posted = λ i. None in
-        ap (λ (ts : List TierState). make ts (epoch_in words) (is_user_in words) seats views) is
-        ∙ ap (λ (epochs : ℕ → ℕ). make (opened_tiers mesh.index body (budget ∷ budgets) width) epochs (is_user_in words) seats views) (fun_ext (λ (p : ℕ). start.epochs p ∙ ap (λ (b : Bool). if b then 1 else 0) (base_listed mesh facts p)))
-        ∙ ap (λ (users : ℕ → ℕ → Bool). make (opened_tiers mesh.index body (budget ∷ budgets) width) first users seats views) (fun_ext (λ (i : ℕ). fun_ext (λ (p : ℕ). start.unused.users i p)))
-        ∙ ap₂ (λ (sessions : ℕ → Option SessionState) (posted : ℕ → Option Posted). make (opened_tiers mesh.index body (budget ∷ budgets) width) first (λ i p. false) sessions posted)
-        (fun_ext (λ (i : ℕ). nothing_at SessionState SESSIONS i)) (fun_ext (λ (i : ℕ). nothing_at Posted SESSIONS i))
+        empty_state mesh tiers tokens start.unused
+        ∙ ap (λ (ts : List TierState). resting ts (epoch_of tokens)) is
+        ∙ ap (resting (opened_tiers mesh.index body (budget ∷ budgets) width))
+        (fun_ext (λ (p : ℕ). start.epochs p ∙ ap (λ (b : Bool). if b then 1 else 0) (base_listed mesh facts p)))
 
     opens_in : OpensIn w a
     opens_in = record {

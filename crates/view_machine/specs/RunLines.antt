@@ -26,6 +26,7 @@ use Rattle.session_seats.specs.Seats.{at_seat}
 use Rattle.view_machine.specs.declared.refusals.RunRefusal.{RunRefusal}
 use Rattle.view_machine.specs.declared.refusals.RunRefusal.TheVariants.{Memory, WriteFault}
 use Rattle.view_machine.specs.Machines.{MachineSeen, world_of, run_state, KeepsPlace}
+use Rattle.view_machine.specs.FrameLines.{place_then}
 use Rattle.view_machine.specs.LineCounts.{HasNoFailure, HasNoChange, rises_none}
 use Rattle.view_machine.specs.LineEnds.{stage_of, history_of, frames_at, FewFrames, FramesRise, PrintsLine, StopsMemory, StopsWriting, StopsLine}
 use Rattle.view_machine.specs.RunEnds.{HaveNoFailure, HaveNoChange, RanLines, StopsRunMemory, StopsRunWriting, StopsRun}
@@ -113,15 +114,6 @@ pub record HasPlayed {S : Type 0} (mode : Mode) (old now : MachineSeen S) (done 
   pub rules : are_lines_from mode (length now.chain.tiers) (history_of now) above rest ≡ true
   pub version : now.board.version ≤ old.board.version + length done
   pub frames : (i : ℕ) → frames_at now.seats.sessions i ≤ length done
-
-place_then : {S : Type 0} (old mid new : MachineSeen S) → KeepsPlace old mid → KeepsPlace mid new → KeepsPlace old new
-place_then old mid new first second = record {
-  world = second.world ∙ first.world;
-  mesh = second.mesh ∙ first.mesh;
-  file = second.file ∙ first.file;
-  bytes = second.bytes ∙ first.bytes;
-  lender = second.lender ∙ first.lender;
-}
 
 module _ {S : Type 0} (mode : Mode) (old mid : MachineSeen S) (done : List Line) (line : Line) (rest : List Line) (f g t u : ℕ) (before between : Option (List ℕ)) (played : HasPlayed mode old mid done (line ∷ rest) f g t u before between) where
   stands : StandsFirst mode (length mid.chain.tiers) (history_of mid) played.above line rest

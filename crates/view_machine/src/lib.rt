@@ -6,9 +6,11 @@
 mod machines;
 mod playing;
 mod refusals;
+mod shown;
 mod sizes;
 
 pub use cache_chain::StartRefusal;
 pub use machines::{EmptyRun, Machine};
 pub use refusals::RunRefusal;
+pub use shown::ShownFrame;
 pub use sizes::FrameSize;

@@ -7,11 +7,16 @@ use token_words::PlainTokens;
 use view_outside::Store;
 use wish_board::WishBoard;
 
+mod calls;
 mod counting;
+mod fast;
 mod frames;
 mod lines;
 mod opening;
+mod resuming;
+mod rounds;
 mod sessions;
+mod showing;
 mod tiers;
 
 pub use opening::EmptyRun;

@@ -11,7 +11,7 @@ use Rattle.script_model.specs.Scripts.{script_in}
 use Rattle.view_script.specs.declared.refusals.ScriptRefusal.{ScriptRefusal}
 use Rattle.view_script.specs.declared.refusals.ScriptRefusal.TheVariants.{Script, ReadFault, Memory}
 use Rattle.view_script.specs.Answers.{Refuses, Gives, IfJudged, IsUnjudged, IsNotReadFault}
-use Rattle.view_script.specs.Reads.{IsFront, HasRead, ReadsThrough}
+use Rattle.line_reader.specs.Reads.{IsFront, HasRead, ReadsThrough}
 
 empty : (bytes : List ℕ) → length bytes ≡ 0 → bytes ≡ []
 empty [] none_there = refl

@@ -1,5 +1,5 @@
 pub mod Stages
 pub mod Answers
-pub mod Reads
+pub mod Readings
 pub mod AddedLines
 pub mod ScriptSeen

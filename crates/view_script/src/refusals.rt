@@ -2,7 +2,9 @@
 
 ghost use Rattle.std.specs.Prelude.{◌≡◌};
 ghost use Rattle.view_script.specs.declared.refusals.ScriptRefusal.TheVariants.{Script, Memory};
+ghost use Rattle.view_script.specs.Readings.{of_reading};
 
+use line_reader::LineRefusal;
 use std::alloc::{AllocError, AllocFailed};
 use text_model::ScriptFault;
 
@@ -38,5 +40,16 @@ impl<T: Drop> From<AllocFailed<T>> for ScriptRefusal {
 
     fn from(_error: AllocFailed<T>) -> ScriptRefusal {
         ScriptRefusal::Memory
+    }
+}
+
+impl From<LineRefusal> for ScriptRefusal {
+    ghost from_gives = { λ reading refusal. refusal ≡ of_reading reading };
+
+    fn from(refusal: LineRefusal) -> ScriptRefusal {
+        match refusal {
+            LineRefusal::ReadFault => ScriptRefusal::ReadFault,
+            LineRefusal::Memory => ScriptRefusal::Memory,
+        }
     }
 }

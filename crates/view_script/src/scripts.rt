@@ -4,11 +4,11 @@ ghost use Rattle.std.specs.Prelude.{◌≡◌, ◌+◌, ◌≤◌, IfOk, IfErr, 
 ghost use Rattle.std.specs.List.{filter};
 ghost use Rattle.view_outside.specs.Faults.{Rose};
 ghost use Rattle.view_outside.specs.OnlyRead.{OnlyIf};
+ghost use Rattle.line_reader.specs.Reads.{ReadsAtMost, ReadsThrough};
 ghost use Rattle.script_model.specs.Orders.{is_of_session};
 ghost use Rattle.script_model.specs.Scripts.{script_in, AreLines};
 ghost use Rattle.view_script.specs.declared.refusals.ScriptRefusal.TheVariants.{ReadFault};
 ghost use Rattle.view_script.specs.Answers.{Gives, IfJudged, IsNotReadFault};
-ghost use Rattle.view_script.specs.Reads.{ReadsAtMost, ReadsThrough};
 
 use crate::reading::read_lines;
 use crate::refusals::ScriptRefusal;

@@ -38,7 +38,7 @@ use Rattle.script_model.specs.Scripts.{script_in}
 use Rattle.view_script.specs.declared.refusals.ScriptRefusal.{ScriptRefusal}
 use Rattle.view_script.specs.declared.refusals.ScriptRefusal.TheVariants as scripts
 use Rattle.view_script.specs.Answers.{Refuses, IfJudged}
-use Rattle.view_script.specs.Reads.{ReadsThrough}
+use Rattle.line_reader.specs.Reads.{ReadsThrough}
 use Rattle.view_machine.specs.LineCounts.{TellsBodies}
 use Rattle.body_loads.specs.ToldBodies.{lists_said, said_bodies}
 use Rattle.run_laws.specs.PrintedFrames.{told_file}

@@ -7,7 +7,7 @@ use Rattle.text_model.specs.declared.statuses.Status.TheVariants as statuses
 use Rattle.view_outside.specs.Faults.{Rose}
 use Rattle.view_outside.specs.Files.{LacksName}
 use Rattle.view_outside.specs.OnlyRead.{OnlyIf}
-use Rattle.view_script.specs.Reads.{HasRead, ReadsAtMost}
+use Rattle.line_reader.specs.Reads.{HasRead, ReadsAtMost}
 use Rattle.viewer_program.specs.declared.commands.FileCommand.{FileCommand}
 use Rattle.viewer_program.specs.declared.strips.StripCommand.{StripCommand}
 use Rattle.viewer_program.specs.Commands.{command_in, name_in}

@@ -12,7 +12,7 @@ use Rattle.script_model.specs.Scripts.{script_in}
 use Rattle.text_model.specs.declared.faults.ScriptFault.{ScriptFault}
 use Rattle.text_model.specs.declared.statuses.Status.{Status}
 use Rattle.text_model.specs.declared.statuses.Status.TheVariants as statuses
-use Rattle.view_script.specs.Reads.{ReadsThrough}
+use Rattle.line_reader.specs.Reads.{ReadsThrough}
 use Rattle.run_model.specs.Worlds.{World}
 use Rattle.viewer_program.specs.Answers.{IsRefusalOf}
 use Rattle.viewer_program.specs.Loading.{CanPlay, HasLoaded, FailsToLoad, IsShort, MayChange}

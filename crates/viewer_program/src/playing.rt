@@ -10,7 +10,7 @@ ghost use Rattle.view_outside.specs.Taken.{taken_after};
 ghost use Rattle.cache_chain.specs.ChainStates.{states_of, AreTiersOf};
 ghost use Rattle.cache_chain.specs.Opening.{IsOpened};
 ghost use Rattle.cache_chain.specs.Refusals.{base_size};
-ghost use Rattle.view_script.specs.Reads.{ReadsAtMost};
+ghost use Rattle.line_reader.specs.Reads.{ReadsAtMost};
 ghost use Rattle.viewer_program.specs.Endings.{IsChange};
 ghost use Rattle.viewer_program.specs.Loading.{IsReady, HasGiven};
 ghost use Rattle.viewer_program.specs.Outside.{StoreSeen, store_seen, outside_with, outside_seen};

@@ -40,7 +40,7 @@ fn shared_body<S: Store>(chain: &TierChain<S>, patch: u32) -> Result<Arc<Body>, 
 }
 
 // The bodies of patches that the top tier holds, in their order and shared with it.
-fn shared_bodies<S: Store>(
+pub(super) fn shared_bodies<S: Store>(
     alloc: Global,
     chain: &TierChain<S>,
     patches: &[u32],

@@ -18,8 +18,8 @@ use std::alloc::Global;
 use view_outside::{Sink, Store, write_all};
 
 impl<'a, S: Store> Machine<'a, S> {
-    // Does what the order says, and gives the text of its line.
-    fn line_output(&mut self, alloc: Global, order: &Order) -> Result<Vec<u8>, NoMemory>
+    /// Does what the order says, and gives the text of its line, as `line` would write it. Conditions as of `line`.
+    pub fn line_output(&mut self, alloc: Global, order: &Order) -> Result<Vec<u8>, NoMemory>
         requires allowed { allows (length self.old.chain.tiers) (history_of self.old) order.now
             ≡ true }
         requires few { self.old.board.version < 2 ^ 63 }

@@ -38,7 +38,7 @@ impl<'a, S: Store> Machine<'a, S> {
     {
         let mut text = Vec::new(alloc);
         add_open(alloc, session, &mut text)?;
-        self.seats.open(alloc, &self.words, session)?;
+        self.open_session(alloc, session)?;
         Ok(text)
     }
 
@@ -61,12 +61,12 @@ impl<'a, S: Store> Machine<'a, S> {
     {
         let mut text = Vec::new(alloc);
         add_view(alloc, session, &mut text)?;
-        self.seats.set_view(&mut self.board, session, view)?;
+        self.set_view(session, view)?;
         Ok(text)
     }
 
-    // The session makes one step.
-    fn step_session(&mut self, alloc: Global, session: u32) -> Result<Stepped, NoMemory>
+    /// The session makes one step. Condition: it is open and has a view.
+    pub fn step_session(&mut self, alloc: Global, session: u32) -> Result<Stepped, NoMemory>
         requires { HasView self.old.seats.sessions session }
         ensures does { IfOk result
             (λ did.
@@ -104,8 +104,8 @@ impl<'a, S: Store> Machine<'a, S> {
         Ok(text)
     }
 
-    // The session gives back all that it uses.
-    fn free_session(&mut self, session: u32) -> u64
+    /// The session gives back all that it uses, and answers how many patches. Condition: it is open.
+    pub fn free_session(&mut self, session: u32) -> u64
         requires { IsOpen self.old.seats.sessions session }
         ensures does { Does (world_of self.old) (run_state self.old) (orders.Free session)
             (DidFree session result) (run_state self.new) }
@@ -138,8 +138,9 @@ impl<'a, S: Store> Machine<'a, S> {
         Ok(text)
     }
 
-    // The session gives back all that it uses, its view is taken off, and it ends.
-    fn close_session(&mut self, session: u32) -> u64
+    /// The session gives back all that it uses, its view is taken off, and it ends. Answers how many patches it used.
+    /// Condition: it is open.
+    pub fn close_session(&mut self, session: u32) -> u64
         requires open { IsOpen self.old.seats.sessions session }
         requires few { self.old.board.version < 2 ^ 63 }
         ensures does { Does (world_of self.old) (run_state self.old) (orders.Close session)

@@ -22,8 +22,8 @@ use tier_model::Turn;
 use view_outside::Store;
 
 impl<'a, S: Store> Machine<'a, S> {
-    // The tier of this number makes one turn.
-    fn turn_tier(&mut self, alloc: Global, tier: u32) -> Result<Turn, NoMemory>
+    /// The tier of this number makes one turn.
+    pub fn turn_tier(&mut self, alloc: Global, tier: u32) -> Result<Turn, NoMemory>
         requires { tier < length self.old.chain.tiers }
         ensures turns { IfOk result
             (λ answer.

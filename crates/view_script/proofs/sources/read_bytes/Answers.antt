@@ -1,7 +1,8 @@
 use Rattle.std.proofs.Common.{◌++◌, length-append, arith, rules}
 use Rattle.std.proofs.lemmas.Grind.{common_steps}
 use Rattle.view_script.specs.declared.sources.TheConstants.{MOST_READ}
-use Rattle.view_script.proofs.ReadLemmas.{HasRead-append, through_end, through_most}
+use Rattle.line_reader.specs.Reads.{HasRead-append}
+use Rattle.view_script.proofs.ReadLemmas.{through_end, through_most}
 use Rattle.view_script.proofs.sources.read_bytes.Goals as goal
 
 pub returns-in_err-read_piece-clause-read : goal.returns-in_err-read_piece-clause-read

@@ -1,6 +1,6 @@
 use Rattle.std.proofs.Common.{◌-◌, ◌≤◌, vec_len}
 use Rattle.view_script.specs.declared.sources.TheConstants.{MOST_READ}
-use Rattle.view_script.specs.Reads.{HasRead}
+use Rattle.line_reader.specs.Reads.{HasRead}
 use Rattle.view_script.proofs.sources.read_bytes.Given as goal
 
 abbrev pub invariant-loop-chunk : goal.invariant-loop-chunk

@@ -1,43 +1,11 @@
-use Rattle.std.proofs.Common.{ℕ, List, [], ◌++◌, Some, codes, refl, ap, subst, ◌∙◌}
-use Rattle.token_words.specs.Changes.{SetAt}
-use Rattle.session_seats.specs.Seats.{told_at}
-use Rattle.session_model.specs.Told.{just_opened}
-use Rattle.view_outside.specs.Files.{file_bytes}
-use Rattle.script_model.specs.declared.orders.Order.TheVariants as orders
-use Rattle.token_words.specs.PlainTokens.{words_seen}
+use Rattle.std.proofs.Common.{List, ℕ, [], ◌++◌, codes, ap, ◌∙◌}
 use Rattle.run_model.specs.Lines.{DidOpen}
 use Rattle.run_model.specs.LineTexts.{session_line}
-use Rattle.view_machine.specs.LineTells.{DoesLine}
-use Rattle.view_machine.specs.Machines.{MachineSeen, world_of, run_state, world_with, state_in}
-use Rattle.view_machine.specs.SeatLines.{seats_do, does_keep}
 use Rattle.view_machine.proofs.machines.Machine.open.Goals as goal
 
-pub invariant_of-self-2 : goal.invariant_of-self-2
-invariant_of-self-2 g c =
-    let m = c.self.inside in
-    let bytes = file_bytes (g.S.Store.files m.chain.store) m.chain.file in
-    let words = words_seen m.words in
-    let e = c.in_ok-open.ensures in
-    let order = orders.Open c.args.session in
-    let did = DidOpen c.args.session in
-    (does_keep m.chain.mesh.lists bytes m.chain.tiers words m.seats m.board c.self.invariant words c.open.new.self order did m.board
-    (seats_do m.chain.mesh.lists bytes m.chain.tiers words m.seats m.board c.self.invariant words c.open.new.self order did e.does) e.mesh e.seated c.self.invariant.on_board (λ p. refl)).is
-
 pub returns-clause-line : goal.returns-clause-line
-returns-clause-line g c =
-    let m = c.self.inside in
-    let bytes = file_bytes (g.S.Store.files m.chain.store) m.chain.file in
-    let words = words_seen m.words in
-    let order = orders.Open c.args.session in
-    let did = DidOpen c.args.session in
-    let text = c.add_open.new.out.items in
-    let here : DoesLine (world_with m.chain.mesh.lists bytes m.chain.tiers) order (state_in m.chain.tiers words m.seats m.board) (state_in m.chain.tiers words c.open.new.self m.board) text = record {
-      did = did;
-      does = seats_do m.chain.mesh.lists bytes m.chain.tiers words m.seats m.board c.self.invariant words c.open.new.self order did c.in_ok-open.ensures.does;
-      is = c.in_ok-add_open.ensures.ok.is ∙ ap (λ (t : List ℕ). t ++ session_line (codes "open") c.args.session []) c.new-text.ensures.items;
-    } in
-    subst (λ (seen : MachineSeen g.row.S.Denot). DoesLine (world_of seen) order (run_state seen) (state_in m.chain.tiers words c.open.new.self m.board) text) c.self.view_is here
-
-pub returns-clause-told : goal.returns-clause-told
-returns-clause-told g c =
-    subst (λ (seen : MachineSeen g.row.S.Denot). SetAt (told_at seen.seats.sessions) c.args.session (Some just_opened) (told_at c.open.new.self.sessions)) c.self.view_is c.in_ok-open.ensures.told
+returns-clause-line g c = record {
+  did = DidOpen c.args.session;
+  does = c.in_ok-open_session.ensures.does;
+  is = c.in_ok-add_open.ensures.ok.is ∙ ap (λ (t : List ℕ). t ++ session_line (codes "open") c.args.session []) c.new-text.ensures.items;
+}

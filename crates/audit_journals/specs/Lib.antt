@@ -1,0 +1,4 @@
+pub mod Journals
+pub mod NeedLaws
+pub mod EntryLaws
+pub mod JournalLaws

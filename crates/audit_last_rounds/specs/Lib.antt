@@ -1,0 +1,2 @@
+pub mod LastRounds
+pub mod LastRoundLaws

@@ -1,0 +1,3 @@
+pub mod TierBooks
+pub mod EntryPatches
+pub mod ReplayLaws

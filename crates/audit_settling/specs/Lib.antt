@@ -1,0 +1,9 @@
+pub mod Settlings
+pub mod OutcomeLines
+pub mod SettlingReads
+pub mod TurnFacts
+pub mod TurnsRead
+pub mod SettlingsRead
+pub mod TurnsBack
+pub mod SettlingBound
+pub mod SettlingsBack

@@ -1,0 +1,5 @@
+pub mod Left
+pub mod LeftTiers
+pub mod LeftLevels
+pub mod LeftRests
+pub mod LeftMachines

@@ -1,0 +1,4 @@
+pub mod Reads
+pub mod LineSeen
+pub mod Bytes
+pub mod Lines

@@ -1,0 +1,4 @@
+pub mod Asking
+pub mod AskingLaws
+pub mod Questions
+pub mod LinkStores

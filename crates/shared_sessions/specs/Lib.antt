@@ -1,0 +1,4 @@
+pub mod Stages
+pub mod OwnLines
+pub mod SharedSeats
+pub mod ServedOrders
