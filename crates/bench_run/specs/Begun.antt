@@ -26,7 +26,7 @@ use Rattle.run_model.specs.Worlds.{World}
 use Rattle.run_model.specs.States.{State}
 use Rattle.run_model.specs.Lines.{Did, DidOpen, DidView, Does}
 use Rattle.run_model.specs.RunTexts.{IsOpening}
-use Rattle.session_seats.specs.Seats.{SeatsSeen, told_at, at_seat, IsOpen, HasView}
+use Rattle.session_seats.specs.Seats.{SeatsSeen, seat_told, at_seat, IsOpen, HasView}
 use Rattle.session_model.specs.Told.{SessionTold, session_told, just_opened, told_view}
 use Rattle.view_machine.specs.FrameLines.{place_then}
 use Rattle.view_machine.specs.LineEnds.{frames_at}
@@ -119,15 +119,15 @@ told_seat : (seat : Option SessionState) (told : SessionTold) → option_map ses
 told_seat None told is = absurd (cc)
 told_seat (Some s) told is = record { session = s; at = refl; is = same_Some (session_told s) told is }
 
-pub told_open : (sessions : List (Option SessionState)) (i : ℕ) (told : SessionTold) → told_at sessions i ≡ Some told → IsOpen sessions i
+pub told_open : (sessions : List (Option SessionState)) (i : ℕ) (told : SessionTold) → seat_told sessions i ≡ Some told → IsOpen sessions i
 told_open sessions i told is = let seat = told_seat (at_seat sessions i) told is in record { session = seat.session; at = seat.at }
 
-told_viewed : (c : ℕ) (sessions : List (Option SessionState)) (i : ℕ) → told_at sessions i ≡ Some (told_view just_opened (bench_view c)) → HasView sessions i
+told_viewed : (c : ℕ) (sessions : List (Option SessionState)) (i : ℕ) → seat_told sessions i ≡ Some (told_view just_opened (bench_view c)) → HasView sessions i
 told_viewed c sessions i is =
     let seat = told_seat (at_seat sessions i) (told_view just_opened (bench_view c)) is in
     record { session = seat.session; at = seat.at; view = bench_view c; viewed = ap (λ (told : SessionTold). told.view) seat.is }
 
-told_few : (c : ℕ) (sessions : List (Option SessionState)) (i : ℕ) → told_at sessions i ≡ Some (told_view just_opened (bench_view c)) → frames_at sessions i < 2 ^ 63
+told_few : (c : ℕ) (sessions : List (Option SessionState)) (i : ℕ) → seat_told sessions i ≡ Some (told_view just_opened (bench_view c)) → frames_at sessions i < 2 ^ 63
 told_few c sessions i is =
     let seat = told_seat (at_seat sessions i) (told_view just_opened (bench_view c)) is in
     let none : frames_at sessions i ≡ 0 = ap (λ (s : Option SessionState). option_map_or (λ (s : SessionState). s.frames) s 0) seat.at ∙ ap (λ (told : SessionTold). told.frames) seat.is in
@@ -136,7 +136,7 @@ told_few c sessions i is =
 -- both lines were done
 pub has_begun : {S : Type 0} (c : ℕ) (old mid new : MachineSeen S) (first second : List ℕ) → KeepsPlace old mid → KeepsPlace mid new
     → DoesLine (world_of old) (orders.Open 1) (run_state old) (run_state mid) first → DoesLine (world_of mid) (orders.View 1 (bench_view c)) (run_state mid) (run_state new) second
-    → SetAt (told_at mid.seats.sessions) 1 (Some (told_view just_opened (bench_view c))) (told_at new.seats.sessions) → HasBegun c old new
+    → SetAt (seat_told mid.seats.sessions) 1 (Some (told_view just_opened (bench_view c))) (seat_told new.seats.sessions) → HasBegun c old new
 has_begun c old mid new first second place later opens views told =
     let opened = (open_line (world_of old) (run_state old) 1 opens.did (run_state mid) opens.does).did_is in
     let viewed = (view_line (world_of mid) (run_state mid) 1 (bench_view c) views.did (run_state new) views.does).did_is in

@@ -2,7 +2,7 @@
 use Rattle.std.proofs.Common.{◌≡◌, ℕ, List, Option, None, Some, IfSome, sym}
 use Rattle.std.specs.Option.{option_map}
 use Rattle.view_outside.specs.Files.{AreBytes}
-use Rattle.link_outside.specs.Messages.{IsMessage, message_text, message_in}
+use Rattle.view_outside.specs.Messages.{IsMessage, message_text, message_in}
 use Rattle.link_messages.specs.declared.messages.Message.{Message}
 use Rattle.link_messages.specs.Seen.{seen}
 use Rattle.link_messages.specs.Spells.{message_in-spells}

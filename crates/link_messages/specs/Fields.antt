@@ -8,7 +8,7 @@ use Rattle.byteorder.specs.Endian.{little_number}
 use Rattle.file_model.specs.Numbers.{number_text, number_in}
 use Rattle.file_laws.specs.Numbers.{IsBytes-drop, length-number_text, number_in-text, number_in-fits, number_text-in}
 use Rattle.view_outside.specs.Files.{AreBytes}
-use Rattle.link_outside.specs.Messages.{is_size, field, field_at}
+use Rattle.view_outside.specs.Messages.{is_size, field, field_at}
 
 pub length-field : (w n : ℕ) → length (field w n) ≡ w
 unfolding field number_text

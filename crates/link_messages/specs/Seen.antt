@@ -1,7 +1,7 @@
 -- What a message in memory says.
 use Rattle.link_messages.specs.declared.messages.Message.{Message}
 use Rattle.link_messages.specs.declared.messages.Message.TheVariants.{AskBytes, Bytes, AskName, File, Failed}
-use Rattle.link_outside.specs.Messages.{MessageSeen, AsksBytes, GivesBytes, AsksName, GivesFile, SaysFailed}
+use Rattle.view_outside.specs.Messages.{MessageSeen, AsksBytes, GivesBytes, AsksName, GivesFile, SaysFailed}
 
 abbrev pub seen : Message → MessageSeen
 seen (AskBytes number file offset size) = AsksBytes number file offset size

@@ -5,11 +5,11 @@ use Rattle.std.proofs.Common.{length-append, append-nil}
 use Rattle.std.specs.Str.{is_utf8}
 use Rattle.std.proofs.lemmas.Bool.{le-leb, eq-eqb, and_from}
 use Rattle.std.proofs.lemmas.Str.{is_utf8-from_IsUtf8}
-use Rattle.link_outside.specs.Messages.{MessageSeen, AsksBytes, GivesBytes, AsksName, GivesFile, SaysFailed}
-use Rattle.link_outside.specs.Messages.{is_size, IsPlace, IsGiving, IsNaming, IsNumbered, IsMessage, field, field_at}
-use Rattle.link_outside.specs.Messages.{message_text, asks_bytes_in, has_bytes, gives_bytes_in, has_name_size}
-use Rattle.link_outside.specs.Messages.{asks_name_in}
-use Rattle.link_outside.specs.Messages.{gives_file_in, says_failed_in, message_in}
+use Rattle.view_outside.specs.Messages.{MessageSeen, AsksBytes, GivesBytes, AsksName, GivesFile, SaysFailed}
+use Rattle.view_outside.specs.Messages.{is_size, IsPlace, IsGiving, IsNaming, IsNumbered, IsMessage, field, field_at}
+use Rattle.view_outside.specs.Messages.{message_text, asks_bytes_in, has_bytes, gives_bytes_in, has_name_size}
+use Rattle.view_outside.specs.Messages.{asks_name_in}
+use Rattle.view_outside.specs.Messages.{gives_file_in, says_failed_in, message_in}
 use Rattle.link_messages.specs.Fields.{length-field, size_range, field_at-spelled, past_field}
 
 -- ---- how many bytes a message has

@@ -9,11 +9,11 @@ use Rattle.std.proofs.lemmas.List.{length-drop}
 use Rattle.std.proofs.lemmas.Str.{IsUtf8-from_is_utf8}
 use Rattle.file_laws.specs.Numbers.{IsBytes-drop}
 use Rattle.view_outside.specs.Files.{AreBytes}
-use Rattle.link_outside.specs.Messages.{MessageSeen, AsksBytes, GivesBytes, AsksName, GivesFile, SaysFailed}
-use Rattle.link_outside.specs.Messages.{is_size, IsMessage, field_at}
-use Rattle.link_outside.specs.Messages.{message_text, asks_bytes_in, has_bytes, gives_bytes_in, has_name_size}
-use Rattle.link_outside.specs.Messages.{asks_name_in}
-use Rattle.link_outside.specs.Messages.{gives_file_in, says_failed_in, message_in}
+use Rattle.view_outside.specs.Messages.{MessageSeen, AsksBytes, GivesBytes, AsksName, GivesFile, SaysFailed}
+use Rattle.view_outside.specs.Messages.{is_size, IsMessage, field_at}
+use Rattle.view_outside.specs.Messages.{message_text, asks_bytes_in, has_bytes, gives_bytes_in, has_name_size}
+use Rattle.view_outside.specs.Messages.{asks_name_in}
+use Rattle.view_outside.specs.Messages.{gives_file_in, says_failed_in, message_in}
 use Rattle.link_messages.specs.Fields.{field_at-fits, field_spells, last_spells, kind_spells}
 
 -- the bytes are those of the message, which is one

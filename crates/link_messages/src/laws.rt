@@ -2,7 +2,7 @@
 
 ghost use Rattle.std.specs.Prelude.{◌≡◌, ℕ, List, Some};
 ghost use Rattle.view_outside.specs.Files.{AreBytes};
-ghost use Rattle.link_outside.specs.Messages.{MessageSeen, IsMessage, message_text, message_in};
+ghost use Rattle.view_outside.specs.Messages.{MessageSeen, IsMessage, message_text, message_in};
 ghost use Rattle.link_messages.specs.Spells.{IsSpelled};
 
 /// The bytes of a message are read as that message, and bytes that are read as a message are that message's.

@@ -3,10 +3,10 @@
 ghost use Rattle.std.specs.Prelude.{◌≡◌, ◌+◌, ◌≤◌, true, false, length, drop, IfSome, MatchOption};
 ghost use Rattle.std.specs.Str.{is_utf8};
 ghost use Rattle.std.specs.Option.{option_map};
-ghost use Rattle.link_outside.specs.Messages.{IsMessage, is_size, field_at, has_bytes, has_name_size, message_text};
-ghost use Rattle.link_outside.specs.Messages.{message_in};
-ghost use Rattle.link_outside.specs.Messages.{asks_bytes_in, gives_bytes_in, asks_name_in, gives_file_in};
-ghost use Rattle.link_outside.specs.Messages.{says_failed_in};
+ghost use Rattle.view_outside.specs.Messages.{IsMessage, is_size, field_at, has_bytes, has_name_size, message_text};
+ghost use Rattle.view_outside.specs.Messages.{message_in};
+ghost use Rattle.view_outside.specs.Messages.{asks_bytes_in, gives_bytes_in, asks_name_in, gives_file_in};
+ghost use Rattle.view_outside.specs.Messages.{says_failed_in};
 ghost use Rattle.link_messages.specs.Seen.{seen};
 
 use crate::messages::Message;
@@ -22,7 +22,7 @@ pub fn decode(bytes: &[u8]) -> Option<Message<'_>>
     read_message(bytes)
 }
 
-#[tactic(auto, unfolding(link_outside::specs::Messages::message_in))]
+#[tactic(auto, unfolding(view_outside::specs::Messages::message_in))]
 fn read_message(bytes: &[u8]) -> Option<Message<'_>>
     ensures { option_map seen result ≡ message_in bytes.now }
 {
@@ -36,7 +36,7 @@ fn read_message(bytes: &[u8]) -> Option<Message<'_>>
     }
 }
 
-#[tactic(auto, unfolding(link_outside::specs::Messages::asks_bytes_in))]
+#[tactic(auto, unfolding(view_outside::specs::Messages::asks_bytes_in))]
 fn read_asking(bytes: &[u8]) -> Option<Message<'_>>
     ensures { option_map seen result ≡ asks_bytes_in bytes.now }
 {
@@ -52,7 +52,7 @@ fn read_asking(bytes: &[u8]) -> Option<Message<'_>>
     }
 }
 
-#[tactic(auto, unfolding(link_outside::specs::Messages::gives_bytes_in))]
+#[tactic(auto, unfolding(view_outside::specs::Messages::gives_bytes_in))]
 fn read_bytes(bytes: &[u8]) -> Option<Message<'_>>
     ensures { option_map seen result ≡ gives_bytes_in bytes.now }
 {
@@ -80,7 +80,7 @@ fn has_bytes(bytes: &[u8]) -> bool
         && bytes.len() == 25 + u16_at(bytes, 23) as usize
 }
 
-#[tactic(auto, unfolding(link_outside::specs::Messages::asks_name_in))]
+#[tactic(auto, unfolding(view_outside::specs::Messages::asks_name_in))]
 fn read_name(bytes: &[u8]) -> Option<Message<'_>>
     ensures { option_map seen result ≡ asks_name_in bytes.now }
 {
@@ -115,7 +115,7 @@ fn text_of(bytes: &[u8]) -> Option<&str>
     }
 }
 
-#[tactic(auto, unfolding(link_outside::specs::Messages::gives_file_in))]
+#[tactic(auto, unfolding(view_outside::specs::Messages::gives_file_in))]
 fn read_file(bytes: &[u8]) -> Option<Message<'_>>
     ensures { option_map seen result ≡ gives_file_in bytes.now }
 {
@@ -129,7 +129,7 @@ fn read_file(bytes: &[u8]) -> Option<Message<'_>>
     }
 }
 
-#[tactic(auto, unfolding(link_outside::specs::Messages::says_failed_in))]
+#[tactic(auto, unfolding(view_outside::specs::Messages::says_failed_in))]
 fn read_failed(bytes: &[u8]) -> Option<Message<'_>>
     ensures { option_map seen result ≡ says_failed_in bytes.now }
 {
@@ -157,7 +157,7 @@ fn behind(bytes: &[u8], at: usize) -> &[u8]
     &bytes[at..]
 }
 
-#[tactic(auto, unfolding(link_outside::specs::Messages::field_at))]
+#[tactic(auto, unfolding(view_outside::specs::Messages::field_at))]
 fn u8_at(bytes: &[u8], at: usize) -> u8
     requires { at + 1 ≤ length bytes.now }
     ensures { result ≡ field_at 1 at bytes.now }
@@ -165,7 +165,7 @@ fn u8_at(bytes: &[u8], at: usize) -> u8
     bytes[at]
 }
 
-#[tactic(auto, unfolding(link_outside::specs::Messages::field_at))]
+#[tactic(auto, unfolding(view_outside::specs::Messages::field_at))]
 fn u16_at(bytes: &[u8], at: usize) -> u16
     requires { at + 2 ≤ length bytes.now }
     ensures { result ≡ field_at 2 at bytes.now }
@@ -173,7 +173,7 @@ fn u16_at(bytes: &[u8], at: usize) -> u16
     LittleEndian::read_u16(&bytes[at..])
 }
 
-#[tactic(auto, unfolding(link_outside::specs::Messages::field_at))]
+#[tactic(auto, unfolding(view_outside::specs::Messages::field_at))]
 fn u32_at(bytes: &[u8], at: usize) -> u32
     requires { at + 4 ≤ length bytes.now }
     ensures { result ≡ field_at 4 at bytes.now }
@@ -181,7 +181,7 @@ fn u32_at(bytes: &[u8], at: usize) -> u32
     LittleEndian::read_u32(&bytes[at..])
 }
 
-#[tactic(auto, unfolding(link_outside::specs::Messages::field_at))]
+#[tactic(auto, unfolding(view_outside::specs::Messages::field_at))]
 fn u64_at(bytes: &[u8], at: usize) -> u64
     requires { at + 8 ≤ length bytes.now }
     ensures { result ≡ field_at 8 at bytes.now }

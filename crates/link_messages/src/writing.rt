@@ -1,8 +1,8 @@
 //! Writing a message as its bytes.
 
 ghost use Rattle.std.specs.Prelude.{◌≡◌, ◌+◌, ◌≤◌, ◌<◌, [], ◌∷◌, ◌++◌, length, take, drop};
-ghost use Rattle.link_outside.specs.Messages.{IsMessage, field, message_text, AsksBytes, GivesBytes, AsksName};
-ghost use Rattle.link_outside.specs.Messages.{GivesFile, SaysFailed};
+ghost use Rattle.view_outside.specs.Messages.{IsMessage, field, message_text, AsksBytes, GivesBytes, AsksName};
+ghost use Rattle.view_outside.specs.Messages.{GivesFile, SaysFailed};
 ghost use Rattle.link_messages.specs.Seen.{seen};
 
 use crate::messages::Message;
@@ -35,7 +35,7 @@ pub fn encode(message: &Message<'_>, out: &mut [u8; 1280]) -> usize
     }
 }
 
-#[tactic(auto, unfolding(link_outside::specs::Messages::message_text))]
+#[tactic(auto, unfolding(view_outside::specs::Messages::message_text))]
 fn write_asking(number: u64, file: u32, offset: u64, size: u16, out: &mut [u8]) -> usize
     requires { length out.old ≡ 1280 }
     ensures fits { result ≤ 1280 }
@@ -49,7 +49,7 @@ fn write_asking(number: u64, file: u32, offset: u64, size: u16, out: &mut [u8]) 
     23
 }
 
-#[tactic(auto, unfolding(link_outside::specs::Messages::message_text))]
+#[tactic(auto, unfolding(view_outside::specs::Messages::message_text))]
 fn write_bytes(
     number: u64,
     file: u32,
@@ -73,7 +73,7 @@ fn write_bytes(
     25 + bytes.len()
 }
 
-#[tactic(auto, unfolding(link_outside::specs::Messages::message_text))]
+#[tactic(auto, unfolding(view_outside::specs::Messages::message_text))]
 fn write_name(number: u64, name: &str, out: &mut [u8]) -> usize
     requires room { length out.old ≡ 1280 }
     requires few { length name.now ≤ 255 }
@@ -87,7 +87,7 @@ fn write_name(number: u64, name: &str, out: &mut [u8]) -> usize
     10 + name.len()
 }
 
-#[tactic(auto, unfolding(link_outside::specs::Messages::message_text))]
+#[tactic(auto, unfolding(view_outside::specs::Messages::message_text))]
 fn write_file(number: u64, file: u32, out: &mut [u8]) -> usize
     requires { length out.old ≡ 1280 }
     ensures fits { result ≤ 1280 }
@@ -99,7 +99,7 @@ fn write_file(number: u64, file: u32, out: &mut [u8]) -> usize
     13
 }
 
-#[tactic(auto, unfolding(link_outside::specs::Messages::message_text))]
+#[tactic(auto, unfolding(view_outside::specs::Messages::message_text))]
 fn write_failed(number: u64, out: &mut [u8]) -> usize
     requires { length out.old ≡ 1280 }
     ensures fits { result ≤ 1280 }
@@ -158,7 +158,7 @@ fn put_u64(out: &mut [u8], at: usize, number: u64)
     write_u64(&mut out[at..], number);
 }
 
-#[tactic(auto, unfolding(link_outside::specs::Messages::field))]
+#[tactic(auto, unfolding(view_outside::specs::Messages::field))]
 fn write_u8(out: &mut [u8], number: u8)
     requires { 1 ≤ length out.old }
     ensures { out.new ≡ field 1 number ++ drop 1 out.old }
@@ -166,7 +166,7 @@ fn write_u8(out: &mut [u8], number: u8)
     out[0] = number;
 }
 
-#[tactic(auto, unfolding(link_outside::specs::Messages::field))]
+#[tactic(auto, unfolding(view_outside::specs::Messages::field))]
 fn write_u16(out: &mut [u8], number: u16)
     requires { 2 ≤ length out.old }
     ensures { out.new ≡ field 2 number ++ drop 2 out.old }
@@ -174,7 +174,7 @@ fn write_u16(out: &mut [u8], number: u16)
     LittleEndian::write_u16(out, number);
 }
 
-#[tactic(auto, unfolding(link_outside::specs::Messages::field))]
+#[tactic(auto, unfolding(view_outside::specs::Messages::field))]
 fn write_u32(out: &mut [u8], number: u32)
     requires { 4 ≤ length out.old }
     ensures { out.new ≡ field 4 number ++ drop 4 out.old }
@@ -182,7 +182,7 @@ fn write_u32(out: &mut [u8], number: u32)
     LittleEndian::write_u32(out, number);
 }
 
-#[tactic(auto, unfolding(link_outside::specs::Messages::field))]
+#[tactic(auto, unfolding(view_outside::specs::Messages::field))]
 fn write_u64(out: &mut [u8], number: u64)
     requires { 8 ≤ length out.old }
     ensures { out.new ≡ field 8 number ++ drop 8 out.old }

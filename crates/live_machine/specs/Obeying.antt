@@ -23,7 +23,7 @@ use Rattle.run_model.specs.Events.{Stays as NoEvent}
 use Rattle.run_model.specs.Lines.{DidFrame, Does}
 use Rattle.run_model.specs.LineTexts.{turn_lines}
 use Rattle.run_laws.specs.LineLaws.{does_reaches}
-use Rattle.session_seats.specs.Seats.{told_at, state_of, HasView}
+use Rattle.session_seats.specs.Seats.{seat_told, state_of, HasView}
 use Rattle.tier_model.specs.Tiers.{TierState}
 use Rattle.view_machine.specs.AllowedOrders.{frames_viewed}
 use Rattle.view_machine.specs.FastBodies.{IsFastBody}
@@ -74,7 +74,7 @@ play_gives order old new files files_now faults faults_now taken taken_now resul
 -- the frame was shown, and an answer was made of it or not
 module _ {S T E : Type 0} (files : S → Option (List Named)) (faults taken : S → ℕ) (old new : MachineSeen S) (result : Result T E) (text : T → List ℕ) (i : ℕ) (there : HasView old.seats.sessions i) where
   pub show_gives : (shown : ShownSeen) → ShowsFrame (world_of old) i (run_state old) (run_state new) new.chain.tiers shown → IfOk result (λ x. IsAnswerOf (DidShow (frame_shown shown)) (text x))
-      → ((told : SessionTold) → told_at old.seats.sessions i ≡ Some told → SetAt (told_at old.seats.sessions) i (Some (one_frame_more told)) (told_at new.seats.sessions))
+      → ((told : SessionTold) → seat_told old.seats.sessions i ≡ Some told → SetAt (seat_told old.seats.sessions) i (Some (one_frame_more told)) (seat_told new.seats.sessions))
       → KeepsPlace old new → new.board ≡ old.board → new.chain ≡ old.chain
       → ObeyGives (live.Show i) old new (files old.chain.store) (files new.chain.store) (faults old.chain.store) (faults new.chain.store) result text
   show_gives shown shows answers told place board chain =
@@ -92,7 +92,7 @@ module _ {S T E : Type 0} (files : S → Option (List Named)) (faults taken : S 
       }
 
   -- the session's round found no memory
-  pub show_stops : IfOk result (λ x. ⊥) → OnErr result (StopsIn (world_of old) (run_state old) (orders.Frame i) (run_state new)) → Stays (told_at old.seats.sessions) (told_at new.seats.sessions)
+  pub show_stops : IfOk result (λ x. ⊥) → OnErr result (StopsIn (world_of old) (run_state old) (orders.Frame i) (run_state new)) → Stays (seat_told old.seats.sessions) (seat_told new.seats.sessions)
       → KeepsPlace old new → new.board ≡ old.board → new.chain ≡ old.chain
       → ObeyGives (live.Show i) old new (files old.chain.store) (files new.chain.store) (faults old.chain.store) (faults new.chain.store) result text
   show_stops never stops stays place board chain = record {

@@ -1,29 +1,11 @@
 -- What is looked at of a state to judge a line: how many tiers there are, how far each session has come, and which
 -- bodies may be had at once.
-use Rattle.std.specs.Prelude.{ℕ, Bool, false, ◌||◌, nat_lt, length, Option, Some, None}
-use Rattle.round_model.specs.Views.{ViewSeen}
-use Rattle.script_model.specs.declared.stages.SessionStage.{SessionStage}
-use Rattle.script_model.specs.declared.stages.SessionStage.TheVariants.{Closed, Opened, Viewed}
+use Rattle.std.specs.Prelude.{ℕ, Bool, ◌||◌, nat_lt, length}
 use Rattle.script_model.specs.Histories.{History}
-use Rattle.session_model.specs.Sessions.{SessionState, locks}
 use Rattle.token_words.specs.Sessions.{session_count}
 use Rattle.run_model.specs.Worlds.{World, is_base}
 use Rattle.run_model.specs.States.{State}
-
--- how far an open session has come that sees this
-abbrev pub viewed_stage : Option ViewSeen → SessionStage
-viewed_stage None = Opened
-viewed_stage (Some view) = Viewed
-
--- how far the session at a seat has come
-abbrev pub stage_of : Option SessionState → SessionStage
-stage_of None = Closed
-stage_of (Some s) = viewed_stage s.view
-
--- the patches that a session has locked; where none is open, none
-abbrev pub seat_locks : Option SessionState → ℕ → Bool
-seat_locks None p = false
-seat_locks (Some s) p = locks s p
+use Rattle.run_model.specs.Stages.{stage_of, seat_locks}
 
 -- the patch is a base patch, or some session has it locked
 abbrev pub is_fast : World → State → ℕ → Bool

@@ -3,8 +3,8 @@ use Rattle.std.specs.Prelude.{◌≡◌, ℕ, ◌+◌, ◌-◌, ◌^◌, ◌<◌
 use Rattle.std.specs.Prelude.{None, Some}
 use Rattle.std.specs.Prelude.{Result, Ok, Err}
 use Rattle.view_outside.specs.Files.{Named}
-use Rattle.link_outside.specs.Messages.{MessageSeen, message_number, message_text, message_in}
-use Rattle.link_outside.specs.Links.{is_awaited, is_refusal, IsTrueOf, IsAbove, IsStray, Asks}
+use Rattle.view_outside.specs.Messages.{MessageSeen, message_number, message_text, message_in}
+use Rattle.view_outside.specs.Links.{is_awaited, is_refusal, IsTrueOf, IsAbove, IsStray, Asks}
 use Rattle.patch_link.specs.declared.asking.arrivals.Arrival.{Arrival}
 use Rattle.patch_link.specs.declared.asking.arrivals.Arrival.TheVariants.{Answer, Refusal, Stray, Nothing}
 

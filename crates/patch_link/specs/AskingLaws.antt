@@ -7,12 +7,12 @@ use Rattle.std.proofs.lemmas.Bool.{and_parts, eqb-true, cases_lt}
 use Rattle.std.proofs.lemmas.List.{length-take}
 use Rattle.view_outside.specs.Faults.{Rose}
 use Rattle.view_outside.specs.Files.{Named}
-use Rattle.link_outside.specs.Messages.{MessageSeen, AsksBytes, GivesBytes, AsksName, GivesFile, SaysFailed}
-use Rattle.link_outside.specs.Messages.{message_number, IsMessage, message_text, message_in, is_question}
-use Rattle.link_outside.specs.Links.{is_awaited, is_refusal, IsTrueOf, IsAnswerTo, IsAwaited, IsRefusal, IsAbove}
-use Rattle.link_outside.specs.Links.{MaySend}
-use Rattle.link_outside.specs.Links.{IsHonestly, IsStray, Asks, GivesUp, IsSent, IsNotSent, NoneCame, IsAnswered}
-use Rattle.link_outside.specs.Links.{IsRefused, Strays}
+use Rattle.view_outside.specs.Messages.{MessageSeen, AsksBytes, GivesBytes, AsksName, GivesFile, SaysFailed}
+use Rattle.view_outside.specs.Messages.{message_number, IsMessage, message_text, message_in, is_question}
+use Rattle.view_outside.specs.Links.{is_awaited, is_refusal, IsTrueOf, IsAnswerTo, IsAwaited, IsRefusal, IsAbove}
+use Rattle.view_outside.specs.Links.{MaySend}
+use Rattle.view_outside.specs.Links.{IsHonestly, IsStray, Asks, GivesUp, IsSent, IsNotSent, NoneCame, IsAnswered}
+use Rattle.view_outside.specs.Links.{IsRefused, Strays}
 use Rattle.link_messages.specs.Spelled.{message_in-text}
 use Rattle.patch_link.specs.declared.asking.arrivals.Arrival.{Arrival}
 use Rattle.patch_link.specs.declared.asking.arrivals.Arrival.TheVariants.{Answer, Refusal, Stray, Nothing}
@@ -54,7 +54,7 @@ awaited_is_no_refusal question (AsksName m name) is refuses = cc
 awaited_is_no_refusal question (GivesFile m g) is refuses = cc
 
 -- the far side's answer that is awaited is true
-true_of : (far : Option (List Named)) (question message : MessageSeen) → is_awaited question message ≡ true
+pub true_of : (far : Option (List Named)) (question message : MessageSeen) → is_awaited question message ≡ true
     → IsAnswerTo far question message → IsTrueOf far question message
 true_of far question message awaited (IsAwaited is right) = right
 true_of far question message awaited (IsRefusal refuses) =

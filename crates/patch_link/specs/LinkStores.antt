@@ -4,8 +4,8 @@ use Rattle.std.specs.Prelude.{None}
 use Rattle.std.specs.Prelude.{Result, IfOk}
 use Rattle.view_outside.specs.Faults.{faults_after}
 use Rattle.view_outside.specs.Files.{Named}
-use Rattle.link_outside.specs.Messages.{MessageSeen, message_number}
-use Rattle.link_outside.specs.Links.{IsAbove, Asks}
+use Rattle.view_outside.specs.Messages.{MessageSeen, message_number}
+use Rattle.view_outside.specs.Links.{IsAbove, Asks}
 
 -- its link, the number of its last question, how many calls were turned away, how many failed in all, and how many
 -- bytes were handed over

@@ -3,9 +3,9 @@ use Rattle.std.specs.Prelude.{◌≡◌, ℕ, ◌<◌, ◌≤◌, Bool, false, L
 use Rattle.std.specs.Prelude.{Result, Ok, Err, OnErr}
 use Rattle.view_outside.specs.Faults.{Rose}
 use Rattle.view_outside.specs.Files.{Named, ReadsFile, TellsBytes}
-use Rattle.link_outside.specs.Messages.{MessageSeen, AsksBytes, GivesBytes, AsksName, GivesFile, SaysFailed}
-use Rattle.link_outside.specs.Messages.{IsGiving, message_in}
-use Rattle.link_outside.specs.Links.{Asks}
+use Rattle.view_outside.specs.Messages.{MessageSeen, AsksBytes, GivesBytes, AsksName, GivesFile, SaysFailed}
+use Rattle.view_outside.specs.Messages.{IsGiving, message_in}
+use Rattle.view_outside.specs.Links.{Asks}
 
 -- the file of an answer
 abbrev pub file_answer : Option MessageSeen → Option ℕ

@@ -2,7 +2,7 @@
 
 ghost use Rattle.std.specs.Prelude.{◌≡◌, ◌≤◌, length, take, Some, None, MatchOption};
 ghost use Rattle.std.specs.Option.{option_map};
-ghost use Rattle.link_outside.specs.Messages.{message_in};
+ghost use Rattle.view_outside.specs.Messages.{message_in};
 ghost use Rattle.link_messages.specs.Seen.{seen};
 ghost use Rattle.patch_link.specs.Questions.{file_answer, bytes_answer, IsGivenIn};
 

@@ -1,15 +1,14 @@
 //! Asking one question until its answer comes.
 
 ghost use Rattle.std.specs.Prelude.{◌≡◌, ◌≤◌, true, false, length, take, Some, IfOk, OnErr};
-ghost use Rattle.link_outside.specs.Messages.{message_number, is_question, IsMessage, message_text};
-ghost use Rattle.link_outside.specs.Links.{IsAbove, Asks};
+ghost use Rattle.view_outside.specs.Messages.{message_number, is_question, IsMessage, message_text};
+ghost use Rattle.view_outside.specs.Links.{IsAbove, Asks};
 ghost use Rattle.link_messages.specs.Seen.{seen};
 ghost use Rattle.patch_link.specs.Asking.{HasAnswer, IsTrueMessage, RoseTogether, outcome};
 
 use crate::asking::arrivals::{Arrival, receive_once};
 use link_messages::{Message, encode};
-use link_outside::Link;
-use view_outside::Failed;
+use view_outside::{Failed, Link};
 
 mod arrivals;
 

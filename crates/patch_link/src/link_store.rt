@@ -5,17 +5,16 @@ ghost use Rattle.std.specs.Prelude.{MatchResult, IsTrue, is_err, ◌↔◌};
 ghost use Rattle.view_outside.specs.Faults.{HasCause, Rose, faults_after};
 ghost use Rattle.view_outside.specs.Files.{HasFile, HasName, Finds, ReadsFile, TellsBytes};
 ghost use Rattle.view_outside.specs.Taken.{taken_after};
-ghost use Rattle.link_outside.specs.Messages.{IsName, is_size, AsksName, AsksBytes};
+ghost use Rattle.view_outside.specs.Messages.{IsName, is_size, AsksName, AsksBytes};
 ghost use Rattle.patch_link.specs.Asking.{RoseTogether};
 ghost use Rattle.patch_link.specs.Questions.{GivesFileOf, GivesBytesOf};
 ghost use Rattle.patch_link.specs.LinkStores.{files_over, faults_over, HasAsked, IsTurnedAway};
 
 use crate::questions::{ask_bytes, ask_name};
 use grid_vertex::NoMemory;
-use link_outside::Link;
 use std::alloc::Global;
 use std::marker::Model;
-use view_outside::{Failed, Store};
+use view_outside::{Failed, Link, Store};
 
 /// A store whose files are asked for over a link. Each call draws a number, from 1 on, sends its question and receives,
 /// again and again, until the answer comes, or 64 failures or 128 other messages.

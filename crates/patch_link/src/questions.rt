@@ -2,16 +2,15 @@
 
 ghost use Rattle.std.specs.Prelude.{◌≡◌, ◌+◌, ◌≤◌, true, length, take, IfOk, OnErr};
 ghost use Rattle.view_outside.specs.Files.{HasFile, HasName};
-ghost use Rattle.link_outside.specs.Messages.{IsName, is_size, AsksName, AsksBytes};
-ghost use Rattle.link_outside.specs.Links.{IsAbove, IsNumberOf};
+ghost use Rattle.view_outside.specs.Messages.{IsName, is_size, AsksName, AsksBytes};
+ghost use Rattle.view_outside.specs.Links.{IsAbove, IsNumberOf};
 ghost use Rattle.patch_link.specs.Asking.{RoseTogether};
 ghost use Rattle.patch_link.specs.Questions.{AsksFor, GivesFileOf, GivesBytesOf, IsRead, IsBoundedBy};
 
 use crate::answers::{bytes_in, copy_first, file_in};
 use crate::asking::ask;
 use link_messages::Message;
-use link_outside::Link;
-use view_outside::Failed;
+use view_outside::{Failed, Link};
 
 /// Asks for the number of the first file of this name.
 pub fn ask_name<L: Link>(

@@ -32,10 +32,10 @@ use Rattle.run_laws.specs.OneSettling.{cancel_turn, first_outcome, does_many, se
 -- ---- a line
 
 -- two lines did one thing, and lead to one state but for bytes of bodies
-record IsOneLine (x y : Did) (b c : State) (rest more : List StoreOutcome) : Type 0 where
-  did : x ≡ y
-  state : blank_state b ≡ blank_state c
-  rest_is : rest ≡ more
+pub record IsOneLine (x y : Did) (b c : State) (rest more : List StoreOutcome) : Type 0 where
+  pub did : x ≡ y
+  pub state : blank_state b ≡ blank_state c
+  pub rest_is : rest ≡ more
 
 module _ (w : World) (bodies : List BodyLists) (told : w.bodies ≡ Some bodies) where
   does_one : (order : Order) (a b c : State) (x y : Did) (rest more : List StoreOutcome) → length a.chain.tiers ≡ length w.budgets → Does w a order x b → Does w a order y c → outcomes_of w x ++ rest ≡ outcomes_of w y ++ more → IsOneLine x y b c rest more
@@ -81,7 +81,7 @@ module _ (w : World) (bodies : List BodyLists) (told : w.bodies ≡ Some bodies)
       record { did = ap DidTurns one.turns; state = one.state; rest_is = one.rest_is }
   does_one order a b c x y rest more many DoesStatus DoesStatus same = record { did = refl; state = refl; rest_is = same }
 
-  does_like : (order : Order) (a d b c : State) (x y : Did) (rest more : List StoreOutcome) → length a.chain.tiers ≡ length w.budgets → blank_state a ≡ blank_state d → Does w a order x b → Does w d order y c → outcomes_of w x ++ rest ≡ outcomes_of w y ++ more → IsOneLine x y b c rest more
+  pub does_like : (order : Order) (a d b c : State) (x y : Did) (rest more : List StoreOutcome) → length a.chain.tiers ≡ length w.budgets → blank_state a ≡ blank_state d → Does w a order x b → Does w d order y c → outcomes_of w x ++ rest ≡ outcomes_of w y ++ more → IsOneLine x y b c rest more
   does_like order a d b c x y rest more many like first second same =
       let one = does_one order (blank_state a) (blank_state b) (blank_state c) x y rest more (blank_many a ∙ many) (blank_does w a b order x first)
       (subst (λ (s : State). Does w s order y (blank_state c)) (sym like) (blank_does w d c order y second)) same in
@@ -89,7 +89,7 @@ module _ (w : World) (bodies : List BodyLists) (told : w.bodies ≡ Some bodies)
 
   -- ---- lines
 
-  first_line : (did : Did) (dids : List Did) (rest : List StoreOutcome) → store_outcomes w (did ∷ dids) ++ rest ≡ outcomes_of w did ++ (store_outcomes w dids ++ rest)
+  pub first_line : (did : Did) (dids : List Did) (rest : List StoreOutcome) → store_outcomes w (did ∷ dids) ++ rest ≡ outcomes_of w did ++ (store_outcomes w dids ++ rest)
   unfolding store_outcomes
   first_line did dids rest = append_assoc (outcomes_of w did) (store_outcomes w dids) rest
 
@@ -136,7 +136,7 @@ module _ (w : World) (bodies : List BodyLists) (told : w.bodies ≡ Some bodies)
   unfolding blank_state opening opened
   one_opening = ap (λ (tiers : List TierState). record (opening w other) { chain = chain_with (opened w.mesh.index other w.budgets w.width).epochs tiers }) (one_chain w.budgets)
 
-opening_many : (w : World) (body : ℕ → SeenBody) → length (opening w body).chain.tiers ≡ length w.budgets
+pub opening_many : (w : World) (body : ℕ → SeenBody) → length (opening w body).chain.tiers ≡ length w.budgets
 unfolding opening opened
 opening_many w body = opened_count w.mesh.index body w.budgets w.width
 
@@ -147,7 +147,7 @@ frame_text_one frame t u first second =
     let pairs = open_is_one frame.triangles first.counted.pairs second.counted.pairs first.counted.are_open second.counted.are_open in
     first.is ∙ ap (λ (n : ℕ). frame_text n frame) (sym first.counted.number ∙ ap length pairs ∙ second.counted.number) ∙ sym second.is
 
-text_one : (did : Did) (t u : List ℕ) → IsTextOf did t → IsTextOf did u → t ≡ u
+pub text_one : (did : Did) (t u : List ℕ) → IsTextOf did t → IsTextOf did u → t ≡ u
 text_one (DidFrame frame) t u first second = frame_text_one frame t u first second
 text_one (DidOpen i) t u first second = first ∙ sym second
 text_one (DidView i) t u first second = first ∙ sym second
@@ -157,7 +157,7 @@ text_one (DidClose i unlocks) t u first second = first ∙ sym second
 text_one (DidTurns log) t u first second = first ∙ sym second
 text_one (DidTell tiers) t u first second = first ∙ sym second
 
-texts_one : (dids : List Did) (t u : List ℕ) → AreTextsOf dids t → AreTextsOf dids u → t ≡ u
+pub texts_one : (dids : List Did) (t u : List ℕ) → AreTextsOf dids t → AreTextsOf dids u → t ≡ u
 texts_one _ _ _ NoText NoText = refl
 texts_one _ _ _ (OneText {did = did} {dids = dids} text rest is others) (OneText other more also further) = ap₂ (λ (x y : List ℕ). x ++ y) (text_one did text other is also) (texts_one dids rest more others further)
 

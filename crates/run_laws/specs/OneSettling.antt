@@ -26,17 +26,17 @@ pub first_outcome : (w : World) (turn : ℕ × Turn) (turns : List (ℕ × Turn)
 unfolding turn_outcomes
 first_outcome w turn turns rest = append_assoc (turn_outcome w turn) (turn_outcomes w turns) rest
 
-outcomes_both : (w : World) (xs ys : List (ℕ × Turn)) → turn_outcomes w (xs ++ ys) ≡ turn_outcomes w xs ++ turn_outcomes w ys
+pub outcomes_both : (w : World) (xs ys : List (ℕ × Turn)) → turn_outcomes w (xs ++ ys) ≡ turn_outcomes w xs ++ turn_outcomes w ys
 unfolding turn_outcomes
 outcomes_both w [] ys = refl
 outcomes_both w (x ∷ xs) ys = ap (λ (os : List StoreOutcome). turn_outcome w x ++ os) (outcomes_both w xs ys) ∙ sym (append_assoc (turn_outcome w x) (turn_outcomes w xs) (turn_outcomes w ys))
 
-outcomes_split : (w : World) (xs ys : List (ℕ × Turn)) (rest : List StoreOutcome) → turn_outcomes w (xs ++ ys) ++ rest ≡ turn_outcomes w xs ++ (turn_outcomes w ys ++ rest)
+pub outcomes_split : (w : World) (xs ys : List (ℕ × Turn)) (rest : List StoreOutcome) → turn_outcomes w (xs ++ ys) ++ rest ≡ turn_outcomes w xs ++ (turn_outcomes w ys ++ rest)
 outcomes_split w xs ys rest = ap (λ (os : List StoreOutcome). os ++ rest) (outcomes_both w xs ys) ∙ append_assoc (turn_outcomes w xs) (turn_outcomes w ys) rest
 
 -- ---- how many tiers there are
 
-turn_many : (w : World) (k : ℕ) (a b : State) (x : Turn) → TurnsTo w k a x b → length b.chain.tiers ≡ length a.chain.tiers
+pub turn_many : (w : World) (k : ℕ) (a b : State) (x : Turn) → TurnsTo w k a x b → length b.chain.tiers ≡ length a.chain.tiers
 unfolding moved
 turn_many w k a b x turn = ap (λ (s : State). length s.chain.tiers) turn.is ∙ length-set a.chain.tiers k turn.after
 

@@ -1,5 +1,6 @@
 pub mod Worlds
 pub mod States
+pub mod Stages
 pub mod Turning
 pub mod Events
 pub mod Safe

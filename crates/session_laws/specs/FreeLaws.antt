@@ -14,7 +14,8 @@ use Rattle.session_model.specs.Counts.{count_falls}
 use Rattle.session_model.specs.SessionStates.{IsSessionState, IsLike, like_uses}
 use Rattle.session_laws.specs.StateLaws.{ended_is, ended_like, ended_many}
 use Rattle.session_model.specs.Does.{does_like}
-use Rattle.session_laws.specs.StepLaws.{none_old_in, some_old_in, unlocked_step, withdraw_step}
+use Rattle.session_laws.specs.StepLaws.{unlocked_step, withdraw_step}
+use Rattle.session_laws.specs.RoundSteps.{none_old_in, some_old_in}
 use Rattle.session_model.specs.Freeing.{uses_left, IsFreeStep, FreesAll, NoUse, MoreUse}
 
 -- one use less

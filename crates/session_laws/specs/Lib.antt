@@ -2,8 +2,10 @@ pub mod Asks
 pub mod Tested
 pub mod Passed
 pub mod Resting
+pub mod AskedPatches
 pub mod Refinings
 pub mod StateLaws
+pub mod RoundSteps
 pub mod StepLaws
 pub mod FreeLaws
 pub mod NextStates

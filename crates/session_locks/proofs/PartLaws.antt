@@ -18,7 +18,9 @@ use Rattle.session_model.specs.Steps.{stepped, begun_round, with_round, after_tr
 use Rattle.session_model.specs.SessionStates.{IsSessionState}
 use Rattle.session_laws.specs.StateLaws.{counted_is, ended_is, ended_locks, ended_like, opened_is, printed_is}
 use Rattle.session_model.specs.Does.{IsStep}
-use Rattle.session_laws.specs.StepLaws.{IsLeast, some_old_in, withdraw_step, unlocked_step, no_round, tried_step, given_step, begun_is, begun_like}
+use Rattle.session_laws.specs.StepLaws.{withdraw_step, unlocked_step, no_round, begun_is, begun_like}
+use Rattle.session_laws.specs.RoundSteps.{tried_step, given_step}
+use Rattle.session_laws.specs.RoundSteps.{IsLeast, some_old_in}
 use Rattle.session_locks.specs.Sessions.{SessionSeen, session_of, with_state, old_of, session_seen, AreParts}
 use Rattle.session_locks.specs.Passes.{HasSameUses, same_of_like}
 use Rattle.session_locks.specs.Taken.{IsAsking}

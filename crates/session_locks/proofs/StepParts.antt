@@ -14,7 +14,8 @@ use Rattle.session_laws.specs.StateLaws.{ended_like, settled_is, settled_like, s
 use Rattle.session_laws.specs.FreeLaws.{free_step_is}
 use Rattle.session_model.specs.Freeing.{DoesFree, Frees}
 use Rattle.session_model.specs.Does.{steps_left}
-use Rattle.session_laws.specs.StepLaws.{step_is, none_old_in, same_ask}
+use Rattle.session_laws.specs.StepLaws.{step_is, same_ask}
+use Rattle.session_laws.specs.RoundSteps.{none_old_in}
 use Rattle.session_locks.specs.Sessions.{SessionSeen, with_state, IsSession}
 use Rattle.session_locks.specs.Taken.{asked_of, Starts, GoesOn, TakesStep, Stops, TakesFreeStep}
 

@@ -16,7 +16,7 @@ use Rattle.token_words.specs.declared.plain_words.PlainTokens.{PlainTokens}
 use Rattle.run_model.specs.Lines.{DidStep}
 use Rattle.session_model.specs.Freeing.{FreesAll}
 use Rattle.session_seats.specs.declared.seat.Seat.{Seat}
-use Rattle.session_seats.specs.Seats.{SeatsSeen, at_seat, AreSeated, HasView, told_at}
+use Rattle.session_seats.specs.Seats.{SeatsSeen, at_seat, AreSeated, HasView, seat_told}
 use Rattle.session_model.specs.Told.{session_told}
 use Rattle.session_seats.specs.SeatChanges.{ChangesSeat}
 use Rattle.session_seats.specs.Orders.{DoesOrder, ReachesSeats, LacksRound, StopsStep, StopsRound, FinishesRound, FreesUses}
@@ -47,7 +47,7 @@ module _ (mesh : MeshLists) (seats : List (Option Seat)) (words : PlainTokens) (
     moved : ChangesSeat i (Some (seat_state new)) (words_seen words) (sessions_of seats) (words_seen now) (sessions_of after)
     moved = changes mesh seats words i old are seated at now new keeps after is
 
-    told : session_told (seat_state new) ≡ session_told (seat_state old) → Stays (told_at (sessions_of seats)) (told_at (sessions_of after))
+    told : session_told (seat_state new) ≡ session_told (seat_state old) → Stays (seat_told (sessions_of seats)) (seat_told (sessions_of after))
     told same = told_stays (words_seen words) (sessions_of seats) (many mesh seats words i old are seated at) i (number mesh seats words i old are seated at) (seat_state old) (seat_state new) (sessions_of after) (old_state mesh seats words i old are seated at) same moved.seats
 
     over : old.session.mesh ≡ mesh
@@ -61,7 +61,7 @@ module _ (mesh : MeshLists) (seats : List (Option Seat)) (words : PlainTokens) (
         steps mesh (words_seen words) (sessions_of seats) seated (many mesh seats words i old are seated at) i (number mesh seats words i old are seated at) (words_seen now) then (seat_state old) (old_state mesh seats words i old are seated at)
         viewed.0 viewed.1 did (seat_state new) made.epoch (made.is ∙ ap (λ (m : MeshLists). step m (seat_state old) made.epoch) over) made.of_epochs moved
 
-    pub step_told : (did : Stepped) → SeatSteps (words_seen words) old did new → Stays (told_at (sessions_of seats)) (told_at (sessions_of after))
+    pub step_told : (did : Stepped) → SeatSteps (words_seen words) old did new → Stays (seat_told (sessions_of seats)) (seat_told (sessions_of after))
     step_told did made = told (told_stepped old.session.mesh (seat_state old) (stepped did (seat_state new)) made.epoch made.is)
 
     -- ---- steps that stop
@@ -76,13 +76,13 @@ module _ (mesh : MeshLists) (seats : List (Option Seat)) (words : PlainTokens) (
     pub step_stops : HasView (sessions_of seats) i → SeatStops old new → ReachesSeats (words_seen words) before (words_seen now) then
     step_stops has made = stopped has [] (seat_state old) NoStep made.no_flight made.no_old made.is
 
-    pub step_stops_told : SeatStops old new → Stays (told_at (sessions_of seats)) (told_at (sessions_of after))
+    pub step_stops_told : SeatStops old new → Stays (seat_told (sessions_of seats)) (seat_told (sessions_of after))
     step_stops_told made = told (ap session_told made.is ∙ told_settled (seat_state old))
 
     pub finish_stops : HasView (sessions_of seats) i → SeatStopsAfter (words_seen words) old new → ReachesSeats (words_seen words) before (words_seen now) then
     finish_stops has made = stopped has made.tries made.last (let P : MeshLists → Type 0 = λ m. Steps m true (epoch_in (words_seen words)) (seat_state old) made.tries made.last in subst P over made.steps) made.no_flight made.no_old made.is
 
-    pub finish_stops_told : SeatStopsAfter (words_seen words) old new → Stays (told_at (sessions_of seats)) (told_at (sessions_of after))
+    pub finish_stops_told : SeatStopsAfter (words_seen words) old new → Stays (seat_told (sessions_of seats)) (seat_told (sessions_of after))
     finish_stops_told made = told (ap session_told made.is ∙ told_settled made.last ∙ told_steps old.session.mesh true (epoch_in (words_seen words)) (seat_state old) made.tries made.last made.steps)
 
     -- ---- what stands where a round was to begin
@@ -134,7 +134,7 @@ module _ (mesh : MeshLists) (seats : List (Option Seat)) (words : PlainTokens) (
       changes = moved;
     }
 
-    pub finish_told : SeatFinishes (words_seen words) old new → Stays (told_at (sessions_of seats)) (told_at (sessions_of after))
+    pub finish_told : SeatFinishes (words_seen words) old new → Stays (seat_told (sessions_of seats)) (seat_told (sessions_of after))
     finish_told made = told (told_finishes old.session.mesh true (epoch_in (words_seen words)) (seat_state old) made.tries (seat_state new) made.finishes)
 
     -- ---- no use
@@ -150,5 +150,5 @@ module _ (mesh : MeshLists) (seats : List (Option Seat)) (words : PlainTokens) (
       changes = moved;
     }
 
-    pub free_told : (unlocks : ℕ) → FreesAll (seat_state old) unlocks (seat_state new) → Stays (told_at (sessions_of seats)) (told_at (sessions_of after))
+    pub free_told : (unlocks : ℕ) → FreesAll (seat_state old) unlocks (seat_state new) → Stays (seat_told (sessions_of seats)) (seat_told (sessions_of after))
     free_told unlocks all = told (told_frees (seat_state old) (seat_state new) unlocks all)

@@ -11,7 +11,7 @@ use Rattle.token_words.specs.declared.plain_words.PlainTokens.{PlainTokens}
 use Rattle.run_model.specs.Lines.{DidStep}
 use Rattle.session_model.specs.Freeing.{FreesAll}
 use Rattle.session_seats.specs.declared.seat.Seat.{Seat}
-use Rattle.session_seats.specs.Seats.{SeatsSeen, at_seat, AreSeated, HasView, told_at}
+use Rattle.session_seats.specs.Seats.{SeatsSeen, at_seat, AreSeated, HasView, seat_told}
 use Rattle.session_seats.specs.SeatChanges.{KeepsWords}
 use Rattle.session_seats.specs.Orders.{DoesOrder, ReachesSeats, StopsStep, StopsRound, FinishesRound, FreesUses}
 use Rattle.session_seats.specs.SeatParts.{seat_state, sessions_of, AreSeats, HasPass}
@@ -84,8 +84,8 @@ module _ (mesh : MeshLists) (seats : List (Option Seat)) (seen : SeatsSeen) (sam
   had_view : HasView seen.sessions i → HasView (sessions_of seats) i
   had_view has = view_in mesh seats seen same i has
 
-  stays_seen : Stays (told_at (sessions_of seats)) (told_at (sessions_of after)) → Stays (told_at seen.sessions) (told_at (sessions_of after))
-  stays_seen stays = let P : SeatsSeen → Type 0 = λ x. Stays (told_at x.sessions) (told_at (sessions_of after)) in subst P same stays
+  stays_seen : Stays (seat_told (sessions_of seats)) (seat_told (sessions_of after)) → Stays (seat_told seen.sessions) (seat_told (sessions_of after))
+  stays_seen stays = let P : SeatsSeen → Type 0 = λ x. Stays (seat_told x.sessions) (seat_told (sessions_of after)) in subst P same stays
 
   reaches_seen : ReachesSeats (words_seen words) (seats_seen mesh seats) (words_seen now) then → ReachesSeats (words_seen words) seen (words_seen now) then
   reaches_seen reaches = let P : SeatsSeen → Type 0 = λ x. ReachesSeats (words_seen words) x (words_seen now) then in subst P same reaches
@@ -106,9 +106,9 @@ module _ (mesh : MeshLists) (seats : List (Option Seat)) (seen : SeatsSeen) (sam
         (λ one. let P : SeatsSeen → Type 0 = λ x. StopsStep i (words_seen words) x (words_seen now) then in
         subst P same (calls.step_lacks mesh seats words i old f.are f.seated f.at now new keeps after refl one)) stops
 
-    pub steps_told : IfOk result (λ did. SeatSteps (words_seen words) old did new) → IfErr result (λ _. SeatStops old new) → Stays (told_at seen.sessions) (told_at (sessions_of after))
+    pub steps_told : IfOk result (λ did. SeatSteps (words_seen words) old did new) → IfErr result (λ _. SeatStops old new) → Stays (seat_told seen.sessions) (seat_told (sessions_of after))
     steps_told made stops =
-        either result (λ did. SeatSteps (words_seen words) old did new) (SeatStops old new) (Stays (told_at seen.sessions) (told_at (sessions_of after))) made stops
+        either result (λ did. SeatSteps (words_seen words) old did new) (SeatStops old new) (Stays (seat_told seen.sessions) (seat_told (sessions_of after))) made stops
         (λ did one. stays_seen (calls.step_told mesh seats words i old f.are f.seated f.at now new keeps after refl did one))
         (λ one. stays_seen (calls.step_stops_told mesh seats words i old f.are f.seated f.at now new keeps after refl one))
 
@@ -128,9 +128,9 @@ module _ (mesh : MeshLists) (seats : List (Option Seat)) (seen : SeatsSeen) (sam
         (λ one. let P : SeatsSeen → Type 0 = λ x. StopsRound i (words_seen words) x (words_seen now) then in
         subst P same (calls.finish_lacks mesh seats words i old f.are f.seated f.at now new keeps after refl one)) stops
 
-    pub finish_told : IfOk result (λ _. SeatFinishes (words_seen words) old new) → IfErr result (λ _. SeatStopsAfter (words_seen words) old new) → Stays (told_at seen.sessions) (told_at (sessions_of after))
+    pub finish_told : IfOk result (λ _. SeatFinishes (words_seen words) old new) → IfErr result (λ _. SeatStopsAfter (words_seen words) old new) → Stays (seat_told seen.sessions) (seat_told (sessions_of after))
     finish_told made stops =
-        either result (λ _. SeatFinishes (words_seen words) old new) (SeatStopsAfter (words_seen words) old new) (Stays (told_at seen.sessions) (told_at (sessions_of after))) made stops
+        either result (λ _. SeatFinishes (words_seen words) old new) (SeatStopsAfter (words_seen words) old new) (Stays (seat_told seen.sessions) (seat_told (sessions_of after))) made stops
         (λ _ one. stays_seen (calls.finish_told mesh seats words i old f.are f.seated f.at now new keeps after refl one))
         (λ one. stays_seen (calls.finish_stops_told mesh seats words i old f.are f.seated f.at now new keeps after refl one))
 
@@ -139,5 +139,5 @@ module _ (mesh : MeshLists) (seats : List (Option Seat)) (seen : SeatsSeen) (sam
       let P : SeatsSeen → Type 0 = λ x. FreesUses i (words_seen words) x unlocks (words_seen now) then in
       subst P same (calls.free_does mesh seats words i old f.are f.seated f.at now new keeps after refl unlocks all)
 
-  pub frees_told : (unlocks : ℕ) → FreesAll (seat_state old) unlocks (seat_state new) → Stays (told_at seen.sessions) (told_at (sessions_of after))
+  pub frees_told : (unlocks : ℕ) → FreesAll (seat_state old) unlocks (seat_state new) → Stays (seat_told seen.sessions) (seat_told (sessions_of after))
   frees_told unlocks all = stays_seen (calls.free_told mesh seats words i old f.are f.seated f.at now new keeps after refl unlocks all)

@@ -9,7 +9,7 @@ use Rattle.token_words.specs.declared.entries.Entry.{Entry}
 use Rattle.wish_board.specs.Boards.{BoardSeen, without_view}
 use Rattle.run_model.specs.Lines.{DidClose}
 use Rattle.session_seats.specs.declared.seat.Seat.{Seat}
-use Rattle.session_seats.specs.Seats.{SeatsSeen, with_seat, AreSeated, told_at}
+use Rattle.session_seats.specs.Seats.{SeatsSeen, with_seat, AreSeated, seat_told}
 use Rattle.session_seats.specs.SeatChanges.{ChangesSeat}
 use Rattle.session_seats.specs.Boards.{IsBoardFor}
 use Rattle.session_seats.specs.Orders.{DoesPosting, FreesUses}
@@ -44,7 +44,7 @@ module _ (mesh : MeshLists) (seats : List (Option Seat)) (mid : SeatsSeen) (same
       subst P (sym goes)
       (seated_now words_now mid.sessions (seen_many mesh seats mid same are) i freed.number mid.mesh None words_now after (subst Q left (leaves i words old unlocks words_now mid freed new left)) (λ s here. absurd (cc)) seated)
 
-  pub close_told : Stays (told_at old.sessions) (told_at mid.sessions) → SetAt (told_at old.sessions) i None (told_at new.sessions)
+  pub close_told : Stays (seat_told old.sessions) (seat_told mid.sessions) → SetAt (seat_told old.sessions) i None (seat_told new.sessions)
   close_told stays =
       let set = told_set words_now mid.sessions (seen_many mesh seats mid same are) i freed.number None new.sessions left in
       record { here = set.here; others = λ j ne. set.others j ne ∙ stays j }

@@ -16,7 +16,7 @@ use Rattle.token_words.specs.declared.plain_words.PlainTokens.{PlainTokens}
 use Rattle.run_model.specs.Lines.{DidOpen}
 use Rattle.run_model.specs.States.{seat_uses}
 use Rattle.session_seats.specs.declared.seat.Seat.{Seat}
-use Rattle.session_seats.specs.Seats.{SeatsSeen, at_seat, with_seat, AreSeated, told_at}
+use Rattle.session_seats.specs.Seats.{SeatsSeen, at_seat, with_seat, AreSeated, seat_told}
 use Rattle.session_model.specs.Told.{SessionTold, just_opened}
 use Rattle.session_seats.specs.SeatChanges.{ChangesSeat}
 use Rattle.session_seats.specs.Orders.{DoesOrder}
@@ -72,7 +72,7 @@ module _ (mesh : MeshLists) (seats : List (Option Seat)) (seen : SeatsSeen) (sam
         (seated_now (words_seen words) seen.sessions (seen_many mesh seats seen same are) i number seen.mesh (Some (opened (patches_of seen.mesh))) (words_seen words) after (subst Q changes.seats changes)
         (λ s here. subst (IsSessionState seen.mesh) (same_Some (opened (patches_of seen.mesh)) s here) (opened_is seen.mesh)) seated)
 
-    pub open_told : SetAt (told_at seen.sessions) i (Some just_opened) (told_at new.sessions)
+    pub open_told : SetAt (seat_told seen.sessions) i (Some just_opened) (seat_told new.sessions)
     open_told =
-        subst (λ (o : Option SessionTold). SetAt (told_at seen.sessions) i o (told_at new.sessions)) (ap Some (told_opened (patches_of seen.mesh)))
+        subst (λ (o : Option SessionTold). SetAt (seat_told seen.sessions) i o (seat_told new.sessions)) (ap Some (told_opened (patches_of seen.mesh)))
         (told_set (words_seen words) seen.sessions (seen_many mesh seats seen same are) i number (Some (opened (patches_of seen.mesh))) new.sessions changes.seats)

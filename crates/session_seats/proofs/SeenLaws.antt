@@ -17,7 +17,7 @@ use Rattle.token_words.specs.Sessions.{IsSession}
 use Rattle.token_words.specs.declared.entries.Entry.{Entry}
 use Rattle.token_words.specs.declared.session_sets.TheConstants.{SESSIONS}
 use Rattle.session_seats.specs.declared.seat.Seat.{Seat}
-use Rattle.session_seats.specs.Seats.{SeatsSeen, at_seat, with_seat, AreSeated, told_at}
+use Rattle.session_seats.specs.Seats.{SeatsSeen, at_seat, with_seat, AreSeated, seat_told}
 use Rattle.session_model.specs.Told.{SessionTold, session_told, told_view, one_frame_more, told_from}
 use Rattle.session_seats.specs.SeatChanges.{ChangesSeat}
 use Rattle.session_seats.specs.SeatLaws.{seated_now, told_set}
@@ -130,17 +130,17 @@ module _ (seen : SeatsSeen) (many : length seen.sessions ≡ SESSIONS) (i : ℕ)
   pub seated_viewed : (view : ViewSeen) (words : List Entry) → AreSeated seen.mesh words seen.sessions → (new : SeatsSeen) → new ≡ with_seat seen i (Some (with_view view s)) → AreSeated new.mesh words new.sessions
   seated_viewed view words are new goes = let is = are.are i s at in seated_as words are (with_view view s) (viewed_is seen.mesh s view is) (viewed_uses view is) (viewed_locks seen.mesh s view is) new goes
 
-  pub told_as : (t : SessionState) (h : SessionTold → SessionTold) → session_told t ≡ h (session_told s) → (told : SessionTold) → told_at seen.sessions i ≡ Some told → (new : SeatsSeen) → new ≡ with_seat seen i (Some t) → SetAt (told_at seen.sessions) i (Some (h told)) (told_at new.sessions)
+  pub told_as : (t : SessionState) (h : SessionTold → SessionTold) → session_told t ≡ h (session_told s) → (told : SessionTold) → seat_told seen.sessions i ≡ Some told → (new : SeatsSeen) → new ≡ with_seat seen i (Some t) → SetAt (seat_told seen.sessions) i (Some (h told)) (seat_told new.sessions)
   told_as t h is told tells new goes =
-      let P : Option SessionTold → Type 0 = λ o. SetAt (told_at seen.sessions) i o (told_at new.sessions) in
+      let P : Option SessionTold → Type 0 = λ o. SetAt (seat_told seen.sessions) i o (seat_told new.sessions) in
       let first = same_Some (session_told s) told (sym (ap (option_map session_told) at) ∙ tells) in
       subst P (ap Some (is ∙ ap h first)) (told_set no_words seen.sessions many i number (Some t) new.sessions (ap (λ (x : SeatsSeen). x.sessions) goes))
 
-  pub told_as_printed : (told : SessionTold) → told_at seen.sessions i ≡ Some told → (new : SeatsSeen) → new ≡ with_seat seen i (Some (printed_once s)) → SetAt (told_at seen.sessions) i (Some (one_frame_more told)) (told_at new.sessions)
+  pub told_as_printed : (told : SessionTold) → seat_told seen.sessions i ≡ Some told → (new : SeatsSeen) → new ≡ with_seat seen i (Some (printed_once s)) → SetAt (seat_told seen.sessions) i (Some (one_frame_more told)) (seat_told new.sessions)
   told_as_printed told tells new goes = told_as (printed_once s) one_frame_more (told_printed s) told tells new goes
 
-  pub told_as_viewed : (view : ViewSeen) (told : SessionTold) → told_at seen.sessions i ≡ Some told → (new : SeatsSeen) → new ≡ with_seat seen i (Some (with_view view s)) → SetAt (told_at seen.sessions) i (Some (told_view told view)) (told_at new.sessions)
+  pub told_as_viewed : (view : ViewSeen) (told : SessionTold) → seat_told seen.sessions i ≡ Some told → (new : SeatsSeen) → new ≡ with_seat seen i (Some (with_view view s)) → SetAt (seat_told seen.sessions) i (Some (told_view told view)) (seat_told new.sessions)
   told_as_viewed view told tells new goes = told_as (with_view view s) (λ (x : SessionTold). told_view x view) (told_viewed s view) told tells new goes
 
-  pub told_as_counted : (frames : ℕ) (told : SessionTold) → told_at seen.sessions i ≡ Some told → (new : SeatsSeen) → new ≡ with_seat seen i (Some (counted_from frames s)) → SetAt (told_at seen.sessions) i (Some (told_from told frames)) (told_at new.sessions)
+  pub told_as_counted : (frames : ℕ) (told : SessionTold) → seat_told seen.sessions i ≡ Some told → (new : SeatsSeen) → new ≡ with_seat seen i (Some (counted_from frames s)) → SetAt (seat_told seen.sessions) i (Some (told_from told frames)) (seat_told new.sessions)
   told_as_counted frames told tells new goes = told_as (counted_from frames s) (λ (x : SessionTold). told_from x frames) (told_counted s frames) told tells new goes

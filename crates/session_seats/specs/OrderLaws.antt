@@ -12,7 +12,7 @@ use Rattle.session_model.specs.declared.steps.Stepped.{Stepped}
 use Rattle.session_model.specs.declared.steps.Stepped.TheVariants.{Done}
 use Rattle.session_model.specs.Sessions.{SessionState, is_left_over, locks, uses, least_old, opened, round_ended, settled, with_view, printed_once}
 use Rattle.session_model.specs.Steps.{SessionStep, stepped, step, step_by, IsOfEpochs, FreeStep, free_old, free_or, free_step}
-use Rattle.session_laws.specs.StepLaws.{some_old_in}
+use Rattle.session_laws.specs.RoundSteps.{some_old_in}
 use Rattle.session_laws.specs.StateLaws.{printed_locks}
 use Rattle.session_model.specs.Finishes.{Steps, NoStep, OneMore, Finishes}
 use Rattle.tier_model.specs.Chains.{Chain}

@@ -20,7 +20,7 @@ use Rattle.token_words.specs.declared.entries.Entry.{Entry}
 use Rattle.token_words.specs.declared.session_sets.TheConstants.{SESSIONS}
 use Rattle.run_model.specs.States.{State, put, seat_uses, seated, posting}
 use Rattle.run_laws.specs.SeatLaws.{put_here, put_other}
-use Rattle.session_seats.specs.Seats.{at_seat, state_of, AreSeated, IsOpen, HasView, told_at}
+use Rattle.session_seats.specs.Seats.{at_seat, state_of, AreSeated, IsOpen, HasView, seat_told}
 use Rattle.session_model.specs.Told.{SessionTold, session_told}
 use Rattle.session_seats.specs.SeatChanges.{KeepsWords, ChangesSeat}
 
@@ -101,17 +101,17 @@ module _ (words : List Entry) (sessions : List (Option SessionState)) (many : le
       here j same = ap (at_seat (slice_set sessions (i - 1) seat)) same ∙ seat_is sessions many i seat number
 
   -- what is told of the session changes, and of no other
-  pub told_set : (seat : Option SessionState) (sessions_now : List (Option SessionState)) → sessions_now ≡ slice_set sessions (i - 1) seat → SetAt (told_at sessions) i (option_map session_told seat) (told_at sessions_now)
+  pub told_set : (seat : Option SessionState) (sessions_now : List (Option SessionState)) → sessions_now ≡ slice_set sessions (i - 1) seat → SetAt (seat_told sessions) i (option_map session_told seat) (seat_told sessions_now)
   told_set seat sessions_now is = record {
     here = ap (option_map session_told) (ap (λ (seats : List (Option SessionState)). at_seat seats i) is ∙ seat_is sessions many i seat number);
     others = λ j ne. ap (option_map session_told) (ap (λ (seats : List (Option SessionState)). at_seat seats j) is ∙ seat_stays sessions many i j seat number ne);
   }
 
   -- where the session tells the same as before, nothing that is told changes
-  pub told_stays : (s t : SessionState) (sessions_now : List (Option SessionState)) → at_seat sessions i ≡ Some s → session_told t ≡ session_told s → sessions_now ≡ slice_set sessions (i - 1) (Some t) → Stays (told_at sessions) (told_at sessions_now)
+  pub told_stays : (s t : SessionState) (sessions_now : List (Option SessionState)) → at_seat sessions i ≡ Some s → session_told t ≡ session_told s → sessions_now ≡ slice_set sessions (i - 1) (Some t) → Stays (seat_told sessions) (seat_told sessions_now)
   told_stays s t sessions_now at same is j =
       elim (cases_eq j i) [
-        | inl here ↦ ap (told_at sessions_now) here ∙ (told_set (Some t) sessions_now is).here ∙ ap Some same ∙ sym (ap (option_map session_told) at) ∙ sym (ap (told_at sessions) here)
+        | inl here ↦ ap (seat_told sessions_now) here ∙ (told_set (Some t) sessions_now is).here ∙ ap Some same ∙ sym (ap (option_map session_told) at) ∙ sym (ap (seat_told sessions) here)
         | inr ne ↦ (told_set (Some t) sessions_now is).others j ne
       ]
 
@@ -145,17 +145,17 @@ of_some None told is = absurd (cc)
 of_some (Some s) told is = (s, refl, same_Some (session_told s) told is)
 
 -- a session of which something is told is open,
-pub open_where_told : (sessions : List (Option SessionState)) (i : ℕ) (told : SessionTold) → told_at sessions i ≡ Some told → IsOpen sessions i
+pub open_where_told : (sessions : List (Option SessionState)) (i : ℕ) (told : SessionTold) → seat_told sessions i ≡ Some told → IsOpen sessions i
 open_where_told sessions i told is = let there = of_some (at_seat sessions i) told is in record { session = there.0; at = there.1 }
 
 -- has the view that is told,
-pub view_where_told : (sessions : List (Option SessionState)) (i : ℕ) (told : SessionTold) (view : ViewSeen) → told_at sessions i ≡ Some told → told.view ≡ Some view → HasView sessions i
+pub view_where_told : (sessions : List (Option SessionState)) (i : ℕ) (told : SessionTold) (view : ViewSeen) → seat_told sessions i ≡ Some told → told.view ≡ Some view → HasView sessions i
 view_where_told sessions i told view is viewed =
     let there = of_some (at_seat sessions i) told is in
     record { session = there.0; at = there.1; view = view; viewed = ap (λ (x : SessionTold). x.view) there.2 ∙ viewed }
 
 -- and where nothing is told it isn't open
-pub closed_where_untold : (sessions : List (Option SessionState)) (i : ℕ) → told_at sessions i ≡ None → at_seat sessions i ≡ None
+pub closed_where_untold : (sessions : List (Option SessionState)) (i : ℕ) → seat_told sessions i ≡ None → at_seat sessions i ≡ None
 closed_where_untold sessions i is = of_none (at_seat sessions i) is
   where
     of_none : (o : Option SessionState) → option_map session_told o ≡ None → o ≡ None

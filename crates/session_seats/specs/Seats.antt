@@ -63,8 +63,8 @@ pub record AreSeated (mesh : MeshLists) (words : List Entry) (sessions : List (O
 -- ---- what a script tells of sessions
 
 -- what is told of the session of this number, if it is open
-abbrev pub told_at : List (Option SessionState) → ℕ → Option SessionTold
-told_at sessions i = option_map session_told (at_seat sessions i)
+abbrev pub seat_told : List (Option SessionState) → ℕ → Option SessionTold
+seat_told sessions i = option_map session_told (at_seat sessions i)
 
 -- the session is open
 pub record IsOpen (sessions : List (Option SessionState)) (i : ℕ) : Type 0 where

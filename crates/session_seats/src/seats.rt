@@ -40,7 +40,7 @@ impl<'m> Seats<'m> {
     ghost use Rattle.token_words.specs.PlainTokens.{words_seen};
     ghost use Rattle.token_words.specs.declared.session_sets.TheConstants.{SESSIONS as GREATEST};
     ghost use Rattle.run_model.specs.Lines.{DidOpen};
-    ghost use Rattle.session_seats.specs.Seats.{at_seat, empty_seats, AreSeated, told_at};
+    ghost use Rattle.session_seats.specs.Seats.{at_seat, empty_seats, AreSeated, seat_told};
     ghost use Rattle.session_model.specs.Told.{just_opened};
     ghost use Rattle.session_seats.specs.Orders.{DoesOrder};
 
@@ -73,8 +73,8 @@ impl<'m> Seats<'m> {
             (words_seen words.now) self.new) }
         ensures seated { AreSeated self.new.mesh (words_seen words.now) self.new.sessions }
         ensures told { OnOk result
-            (SetAt (told_at self.old.sessions) session (Some just_opened)
-            (told_at self.new.sessions)) }
+            (SetAt (seat_told self.old.sessions) session (Some just_opened)
+            (seat_told self.new.sessions)) }
         ensures mesh { self.new.mesh ≡ self.old.mesh }
         ensures refused { OnErr result (self.new ≡ self.old) }
     {

@@ -1,7 +1,6 @@
 -- How far a session has come, and which of its orders may come then.
-use Rattle.std.specs.Prelude.{◌≡◌, ℕ, ◌<◌, List, [], ◌∷◌, Option, Some, None}
+use Rattle.std.specs.Prelude.{◌≡◌, ℕ, ◌<◌, List, [], ◌∷◌}
 use Rattle.std.specs.List.{filter}
-use Rattle.round_model.specs.Views.{ViewSeen}
 use Rattle.script_model.specs.declared.modes.Mode.TheVariants.{Serve}
 use Rattle.script_model.specs.declared.orders.Line.{Line}
 use Rattle.script_model.specs.declared.orders.Order.{Order}
@@ -10,17 +9,6 @@ use Rattle.script_model.specs.declared.stages.SessionStage.{SessionStage}
 use Rattle.script_model.specs.declared.stages.SessionStage.TheVariants.{Closed, Opened, Viewed}
 use Rattle.script_model.specs.Orders.{is_of_session}
 use Rattle.script_model.specs.Scripts.{AreLines}
-use Rattle.session_model.specs.Sessions.{SessionState}
-
--- how far an open session has come, by its view
-abbrev pub open_stage : Option ViewSeen → SessionStage
-open_stage None = Opened
-open_stage (Some view) = Viewed
-
--- how far a session has come
-abbrev pub seat_stage : Option SessionState → SessionStage
-seat_stage None = Closed
-seat_stage (Some s) = open_stage s.view
 
 -- the lines are those of session i in a script that is served
 pub record AreOwnLines (i : ℕ) (lines : List Line) : Type 0 where

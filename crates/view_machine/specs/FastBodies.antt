@@ -16,7 +16,8 @@ use Rattle.run_model.specs.Worlds.{World, is_base, patch_count}
 use Rattle.run_model.specs.States.{State, seat_uses}
 use Rattle.run_model.specs.Safe.{IsSafe, IsHeldAtTop}
 use Rattle.run_laws.specs.Sound.{base_within, locked_within}
-use Rattle.live_model.specs.Places.{seat_locks, is_fast}
+use Rattle.run_model.specs.Stages.{seat_locks}
+use Rattle.live_model.specs.Places.{is_fast}
 use Rattle.session_seats.specs.Seats.{SeatsSeen, at_seat, state_of}
 use Rattle.view_machine.specs.Machines.{world_with, state_in, IsMachine}
 

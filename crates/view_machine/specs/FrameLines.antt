@@ -28,7 +28,7 @@ use Rattle.run_model.specs.Safe.{IsSafe}
 use Rattle.run_model.specs.Lines.{DidFrame, Does, top_body, frame_of, frame_with}
 use Rattle.run_laws.specs.PrintedFrames.{frame_held}
 use Rattle.session_seats.specs.Orders.{FinishesRound}
-use Rattle.session_seats.specs.Seats.{SeatsSeen, IsDoneAt, told_at}
+use Rattle.session_seats.specs.Seats.{SeatsSeen, IsDoneAt, seat_told}
 use Rattle.session_model.specs.Told.{SessionTold, one_frame_more}
 use Rattle.view_machine.specs.Machines.{MachineSeen, world_of, run_state, state_in, KeepsPlace}
 use Rattle.view_machine.specs.LineTells.{DoesLine}
@@ -140,8 +140,8 @@ pub finished_many : (i : ℕ) (words : List Entry) (old : SeatsSeen) (words_now 
 finished_many i words old words_now now round = ap length round.changes.seats ∙ length-set old.sessions (i - 1) (Some round.last) ∙ round.seats
 
 -- what is told of a session after its round was finished and printed
-pub told_then : (old mid new : List (Option SessionState)) (i : ℕ) → Stays (told_at old) (told_at mid) → ((told : SessionTold) → told_at mid i ≡ Some told → SetAt (told_at mid) i (Some (one_frame_more told)) (told_at new))
-    → (told : SessionTold) → told_at old i ≡ Some told → SetAt (told_at old) i (Some (one_frame_more told)) (told_at new)
+pub told_then : (old mid new : List (Option SessionState)) (i : ℕ) → Stays (seat_told old) (seat_told mid) → ((told : SessionTold) → seat_told mid i ≡ Some told → SetAt (seat_told mid) i (Some (one_frame_more told)) (seat_told new))
+    → (told : SessionTold) → seat_told old i ≡ Some told → SetAt (seat_told old) i (Some (one_frame_more told)) (seat_told new)
 told_then old mid new i stays prints told tells =
     let sets = prints told (stays i ∙ tells) in
     record { here = sets.here; others = λ j ne. sets.others j ne ∙ stays j }

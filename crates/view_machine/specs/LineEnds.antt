@@ -9,7 +9,7 @@ use Rattle.view_outside.specs.Faults.{Rose, RoseBy}
 use Rattle.view_outside.specs.Streams.{appended}
 use Rattle.view_outside.specs.Taken.{taken_after}
 use Rattle.run_model.specs.Worlds.{World}
-pub use Rattle.live_model.specs.Places.{viewed_stage, stage_of}
+pub use Rattle.run_model.specs.Stages.{viewed_stage, stage_of}
 use Rattle.run_model.specs.States.{State}
 use Rattle.run_model.specs.Lines.{Did, Does}
 use Rattle.run_model.specs.LineTexts.{IsTextOf}

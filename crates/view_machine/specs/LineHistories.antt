@@ -8,7 +8,7 @@ use Rattle.script_model.specs.declared.stages.SessionStage.TheVariants.{Closed}
 use Rattle.script_model.specs.Histories.{with_stage}
 use Rattle.session_model.specs.Sessions.{SessionState}
 use Rattle.token_words.specs.Changes.{SetAt, Stays}
-use Rattle.session_seats.specs.Seats.{at_seat, told_at}
+use Rattle.session_seats.specs.Seats.{at_seat, seat_told}
 use Rattle.session_model.specs.Told.{SessionTold, session_told}
 use Rattle.view_machine.specs.LineEnds.{viewed_stage, stage_of, stages_in, frames_at}
 
@@ -29,7 +29,7 @@ frames_told : (o : Option SessionState) → option_map_or (λ (s : SessionState)
 frames_told None = refl
 frames_told (Some s) = refl
 
-pub told_is : (sessions : List (Option SessionState)) (i : ℕ) (s : SessionState) → at_seat sessions i ≡ Some s → told_at sessions i ≡ Some (session_told s)
+pub told_is : (sessions : List (Option SessionState)) (i : ℕ) (s : SessionState) → at_seat sessions i ≡ Some s → seat_told sessions i ≡ Some (session_told s)
 told_is sessions i s at = ap (λ (o : Option SessionState). option_map session_told o) at
 
 pub frames_open : (sessions : List (Option SessionState)) (i : ℕ) (s : SessionState) → at_seat sessions i ≡ Some s → frames_at sessions i ≡ s.frames
@@ -49,12 +49,12 @@ stage_again sessions i s at =
 
 -- ---- one session's number
 
-module _ (old new : List (Option SessionState)) (i : ℕ) (value : Option SessionTold) (sets : SetAt (told_at old) i value (told_at new)) where
+module _ (old new : List (Option SessionState)) (i : ℕ) (value : Option SessionTold) (sets : SetAt (seat_told old) i value (seat_told new)) where
   stage_then : (j : ℕ) → stage_of (at_seat new j) ≡ with_stage i (told_stage value) (stages_in old) j
   stage_then j =
       elim (cases_eq j i) [
         | inl same ↦
-            stage_told (at_seat new j) ∙ ap told_stage (ap (told_at new) same ∙ sets.here)
+            stage_told (at_seat new j) ∙ ap told_stage (ap (seat_told new) same ∙ sets.here)
             ∙ sym (cond-true (eqb j i) (told_stage value) (stages_in old j) (eq-eqb j i same))
         | inr ne ↦
             stage_told (at_seat new j) ∙ ap told_stage (sets.others j ne) ∙ sym (stage_told (at_seat old j))
@@ -76,7 +76,7 @@ module _ (old new : List (Option SessionState)) (i : ℕ) (value : Option Sessio
             omega (arith, is)
       ]
 
-module _ (old new : List (Option SessionState)) (stays : Stays (told_at old) (told_at new)) where
+module _ (old new : List (Option SessionState)) (stays : Stays (seat_told old) (seat_told new)) where
   -- each session has come as far as before
   pub stages_stay : stages_in new ≡ stages_in old
   stages_stay = fun_ext (λ (j : ℕ). stage_told (at_seat new j) ∙ ap told_stage (stays j) ∙ sym (stage_told (at_seat old j)))

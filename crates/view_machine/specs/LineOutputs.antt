@@ -21,7 +21,7 @@ use Rattle.run_model.specs.Worlds.{World}
 use Rattle.run_model.specs.States.{State}
 use Rattle.run_model.specs.Lines.{Did, Does, DoesOpen, DoesView, DoesStep, DoesFrame, DoesFree, DoesClose, DoesTurn, DoesSettle, DoesStatus}
 use Rattle.run_model.specs.RunTexts.{turns_in}
-use Rattle.session_seats.specs.Seats.{SeatsSeen, told_at, IsOpen}
+use Rattle.session_seats.specs.Seats.{SeatsSeen, seat_told, IsOpen}
 use Rattle.session_model.specs.Told.{SessionTold, session_told, just_opened, told_view, one_frame_more}
 use Rattle.view_machine.specs.declared.refusals.RunRefusal.{RunRefusal}
 use Rattle.view_machine.specs.declared.refusals.RunRefusal.TheVariants.{Memory, WriteFault}
@@ -131,12 +131,12 @@ module _ {S T E : Type 0} (files : S → Option (List Named)) (faults taken : S 
   Stopped order = OnErr result (StopsIn (world_of old) (run_state old) order (run_state new))
 
   abbrev pub Sets : ℕ → Option SessionTold → Type 0
-  Sets i value = SetAt (told_at old.seats.sessions) i value (told_at new.seats.sessions)
+  Sets i value = SetAt (seat_told old.seats.sessions) i value (seat_told new.seats.sessions)
 
   pub rises : (i : ℕ) (value : Option SessionTold) → Sets i value → told_frames value ≤ frames_at old.seats.sessions i + 1 → FramesRise old new
   rises i value sets most = record { rise = frames_set old.seats.sessions new.seats.sessions i value sets most }
 
-  pub rises_still : Stays (told_at old.seats.sessions) (told_at new.seats.sessions) → FramesRise old new
+  pub rises_still : Stays (seat_told old.seats.sessions) (seat_told new.seats.sessions) → FramesRise old new
   rises_still stays = record { rise = frames_stay old.seats.sessions new.seats.sessions stays }
 
   seat_line : (order : Order) → is_turning order ≡ false → new.chain ≡ old.chain → Line order → IfOk result (λ x. DoesCounted (world_of old) order (run_state old) (run_state new) (text x) (faults old.chain.store) (faults new.chain.store) (taken old.chain.store) (taken new.chain.store))
@@ -169,7 +169,7 @@ module _ {S T E : Type 0} (files : S → Option (List Named)) (faults taken : S 
   }
 
   pub view_gives : (i : ℕ) (view : ViewSeen) → IsOpen old.seats.sessions i → Line (orders.View i view) → OnErr result (new ≡ old)
-      → OnOk result ((told : SessionTold) → told_at old.seats.sessions i ≡ Some told → Sets i (Some (told_view told view)))
+      → OnOk result ((told : SessionTold) → seat_told old.seats.sessions i ≡ Some told → Sets i (Some (told_view told view)))
       → new.board.version ≤ old.board.version + 1 → KeepsPlace old new → new.chain ≡ old.chain → Gives (orders.View i view)
   unfolding history_after
   view_gives i view there line none told version place chain =
@@ -188,7 +188,7 @@ module _ {S T E : Type 0} (files : S → Option (List Named)) (faults taken : S 
             (either_way result (λ given. rises i value given (omega (arith, most))) (λ same. frames_same old new (ap (λ (m : MachineSeen S). m.seats) same)) sets none);
       }
 
-  pub step_gives : (i : ℕ) → Line (orders.Step i) → Stopped (orders.Step i) → Stays (told_at old.seats.sessions) (told_at new.seats.sessions) → KeepsPlace old new → new.board ≡ old.board → new.chain ≡ old.chain → Gives (orders.Step i)
+  pub step_gives : (i : ℕ) → Line (orders.Step i) → Stopped (orders.Step i) → Stays (seat_told old.seats.sessions) (seat_told new.seats.sessions) → KeepsPlace old new → new.board ≡ old.board → new.chain ≡ old.chain → Gives (orders.Step i)
   unfolding history_after
   step_gives i line none stays place board chain = record {
     line = seat_line (orders.Step i) refl chain line;
@@ -199,8 +199,8 @@ module _ {S T E : Type 0} (files : S → Option (List Named)) (faults taken : S 
   }
 
   pub frame_gives : (i : ℕ) → IsOpen old.seats.sessions i → Line (orders.Frame i) → Stopped (orders.Frame i)
-      → OnOk result ((told : SessionTold) → told_at old.seats.sessions i ≡ Some told → Sets i (Some (one_frame_more told)))
-      → OnErr result (Stays (told_at old.seats.sessions) (told_at new.seats.sessions)) → KeepsPlace old new → new.board ≡ old.board → new.chain ≡ old.chain → Gives (orders.Frame i)
+      → OnOk result ((told : SessionTold) → seat_told old.seats.sessions i ≡ Some told → Sets i (Some (one_frame_more told)))
+      → OnErr result (Stays (seat_told old.seats.sessions) (seat_told new.seats.sessions)) → KeepsPlace old new → new.board ≡ old.board → new.chain ≡ old.chain → Gives (orders.Frame i)
   unfolding history_after
   frame_gives i there line none told stays place board chain =
       let s = there.session in
@@ -216,7 +216,7 @@ module _ {S T E : Type 0} (files : S → Option (List Named)) (faults taken : S 
         keeps = seat_keeps place chain (version_same old new board) (either_way result (λ given. rises i value given (omega (arith, most))) rises_still sets stays);
       }
 
-  pub free_gives : (i : ℕ) → Line (orders.Free i) → Stopped (orders.Free i) → Stays (told_at old.seats.sessions) (told_at new.seats.sessions) → KeepsPlace old new → new.board ≡ old.board → new.chain ≡ old.chain → Gives (orders.Free i)
+  pub free_gives : (i : ℕ) → Line (orders.Free i) → Stopped (orders.Free i) → Stays (seat_told old.seats.sessions) (seat_told new.seats.sessions) → KeepsPlace old new → new.board ≡ old.board → new.chain ≡ old.chain → Gives (orders.Free i)
   unfolding history_after
   free_gives i line none stays place board chain = record {
     line = seat_line (orders.Free i) refl chain line;

@@ -11,3 +11,5 @@ pub mod SourceState
 pub mod SinkState
 pub mod Room
 pub mod FolderCounts
+pub mod Messages
+pub mod Links

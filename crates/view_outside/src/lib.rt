@@ -1,6 +1,7 @@
 //! The outside of the viewer: files that are read, a source of text and a sink of text, and gates that a run passes.
 //!
-//! Each is a trait. Those in memory tell what they hold; those over the system's files and streams tell nothing of it.
+//! Each is a trait, and so is a link to the far side of a file, whose messages may be lost, repeated and reordered. Those
+//! in memory tell what they hold; those over the system's files and streams tell nothing of it.
 //! Each counts its faults, so that a failed call can be traced to the outside.
 #![tactic(auto)]
 
@@ -9,6 +10,7 @@ mod failed;
 mod faults;
 mod gates;
 mod interrupts;
+mod links;
 mod planned;
 mod sinks;
 mod sources;
@@ -16,6 +18,7 @@ mod stores;
 
 pub use failed::{Failed, WriteFault};
 pub use gates::{Gate, GatePoint, HoldGate, OpenGate};
+pub use links::Link;
 pub use sinks::{MemorySink, Sink, StdSink, write_all};
 pub use sources::{MemorySource, Source, StdSource};
 pub use stores::{FolderStore, MemoryStore, NamedFile, ReadAhead, Store};

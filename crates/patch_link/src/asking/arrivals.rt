@@ -1,13 +1,13 @@
 //! What came over a link, beside the question that is under way.
 
 ghost use Rattle.std.specs.Prelude.{◌≡◌, ℕ, ◌≤◌, true, List, length, Some};
-ghost use Rattle.link_outside.specs.Messages.{IsMessage, message_text, message_number, AsksBytes, AsksName};
-ghost use Rattle.link_outside.specs.Links.{is_awaited, is_refusal};
+ghost use Rattle.view_outside.specs.Messages.{IsMessage, message_text, message_number, AsksBytes, AsksName};
+ghost use Rattle.view_outside.specs.Links.{is_awaited, is_refusal};
 ghost use Rattle.link_messages.specs.Seen.{seen};
 ghost use Rattle.patch_link.specs.Asking.{IsArrival, Arrives, IsFitting, IsTrueArrival, IsCounted};
 
 use link_messages::{Message, decode};
-use link_outside::Link;
+use view_outside::Link;
 
 /// What came: the awaited answer, of so many bytes, that the far side failed at this question, another message, or
 /// none.

@@ -1,4 +1,5 @@
-use Rattle.session_laws.specs.Refinings.{answer_locks, owed_is_locked, release_locks}
+use Rattle.session_laws.specs.Refinings.{owed_is_locked, release_locks}
+use Rattle.session_laws.specs.AskedPatches.{answer_locks}
 use Rattle.session_laws.proofs.each_answer_changes_one_lock.Goals as goal
 
 pub returns-clause-tried : goal.returns-clause-tried

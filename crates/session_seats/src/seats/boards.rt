@@ -8,7 +8,7 @@ ghost use Rattle.token_words.specs.PlainTokens.{words_seen};
 ghost use Rattle.token_words.specs.declared.entries.Entry.{Entry};
 ghost use Rattle.wish_board.specs.Boards.{without_view};
 ghost use Rattle.run_model.specs.Lines.{DidView, DidClose};
-ghost use Rattle.session_seats.specs.Seats.{at_seat, with_seat, AreSeated, IsOpen, told_at};
+ghost use Rattle.session_seats.specs.Seats.{at_seat, with_seat, AreSeated, IsOpen, seat_told};
 ghost use Rattle.session_model.specs.Told.{SessionTold, told_view};
 ghost use Rattle.session_seats.specs.SeatChanges.{KeepsWords};
 ghost use Rattle.session_seats.specs.Boards.{IsBoardFor, posted_on};
@@ -43,9 +43,9 @@ impl<'m> Seats<'m> {
         ensures seated { (words : List Entry) → AreSeated self.old.mesh words self.old.sessions
             → AreSeated self.new.mesh words self.new.sessions }
         ensures told { OnOk result
-            ((told : SessionTold) → told_at self.old.sessions session ≡ Some told
-            → SetAt (told_at self.old.sessions) session (Some (told_view told view))
-            (told_at self.new.sessions)) }
+            ((told : SessionTold) → seat_told self.old.sessions session ≡ Some told
+            → SetAt (seat_told self.old.sessions) session (Some (told_view told view))
+            (seat_told self.new.sessions)) }
         ensures mesh { self.new.mesh ≡ self.old.mesh }
         ensures board { IsBoardFor self.new.mesh board.new }
         ensures refused { OnErr result ((self.new ≡ self.old) × (board.new ≡ board.old)) }
@@ -80,7 +80,7 @@ impl<'m> Seats<'m> {
         ensures taken_off { board.new ≡ without_view board.old session }
         ensures seated { AreSeated self.new.mesh (words_seen words.new) self.new.sessions }
         ensures words { KeepsWords session (words_seen words.old) (words_seen words.new) }
-        ensures told { SetAt (told_at self.old.sessions) session None (told_at self.new.sessions) }
+        ensures told { SetAt (seat_told self.old.sessions) session None (seat_told self.new.sessions) }
         ensures mesh { self.new.mesh ≡ self.old.mesh }
         ensures board { IsBoardFor self.new.mesh board.new }
     {

@@ -5,7 +5,7 @@ ghost use Rattle.session_model.specs.Sessions.{SessionState, printed_once, count
 ghost use Rattle.token_words.specs.Changes.{SetAt};
 ghost use Rattle.token_words.specs.declared.entries.Entry.{Entry};
 ghost use Rattle.token_words.specs.declared.session_sets.TheConstants.{SESSIONS};
-ghost use Rattle.session_seats.specs.Seats.{at_seat, with_seat, AreSeated, HasRound, IsOpen, IsDoneAt, told_at};
+ghost use Rattle.session_seats.specs.Seats.{at_seat, with_seat, AreSeated, HasRound, IsOpen, IsDoneAt, seat_told};
 ghost use Rattle.session_model.specs.Told.{SessionTold, told_from, one_frame_more};
 
 use crate::seats::Seats;
@@ -50,9 +50,9 @@ impl<'m> Seats<'m> {
             → self.new ≡ with_seat self.old session (Some (printed_once s)) }
         ensures seated { (words : List Entry) → AreSeated self.old.mesh words self.old.sessions
             → AreSeated self.new.mesh words self.new.sessions }
-        ensures told { (told : SessionTold) → told_at self.old.sessions session ≡ Some told
-            → SetAt (told_at self.old.sessions) session (Some (one_frame_more told))
-            (told_at self.new.sessions) }
+        ensures told { (told : SessionTold) → seat_told self.old.sessions session ≡ Some told
+            → SetAt (seat_told self.old.sessions) session (Some (one_frame_more told))
+            (seat_told self.new.sessions) }
     {
         match &mut self.seats[session as usize - 1] {
             Some(seat) => seat.session.printed(),
@@ -67,9 +67,9 @@ impl<'m> Seats<'m> {
             → self.new ≡ with_seat self.old session (Some (counted_from frames s)) }
         ensures seated { (words : List Entry) → AreSeated self.old.mesh words self.old.sessions
             → AreSeated self.new.mesh words self.new.sessions }
-        ensures told { (told : SessionTold) → told_at self.old.sessions session ≡ Some told
-            → SetAt (told_at self.old.sessions) session (Some (told_from told frames))
-            (told_at self.new.sessions) }
+        ensures told { (told : SessionTold) → seat_told self.old.sessions session ≡ Some told
+            → SetAt (seat_told self.old.sessions) session (Some (told_from told frames))
+            (seat_told self.new.sessions) }
         ensures facts { length self.old.sessions ≡ SESSIONS }
     {
         match &mut self.seats[session as usize - 1] {

@@ -5,7 +5,7 @@ ghost use Rattle.script_model.specs.declared.orders.Order.TheVariants as orders;
 ghost use Rattle.token_words.specs.Changes.{Stays};
 ghost use Rattle.token_words.specs.PlainTokens.{words_seen};
 ghost use Rattle.run_model.specs.Lines.{DidStep, DidFree};
-ghost use Rattle.session_seats.specs.Seats.{AreSeated, IsOpen, HasView, told_at};
+ghost use Rattle.session_seats.specs.Seats.{AreSeated, IsOpen, HasView, seat_told};
 ghost use Rattle.session_seats.specs.SeatChanges.{KeepsWords};
 ghost use Rattle.session_seats.specs.Orders.{DoesOrder, ReachesSeats, StopsStep, StopsRound, FinishesRound, FreesUses};
 
@@ -37,7 +37,7 @@ impl<'m> Seats<'m> {
             (StopsStep session (words_seen words.old) self.old (words_seen words.new) self.new) }
         ensures seated { AreSeated self.new.mesh (words_seen words.new) self.new.sessions }
         ensures words { KeepsWords session (words_seen words.old) (words_seen words.new) }
-        ensures told { Stays (told_at self.old.sessions) (told_at self.new.sessions) }
+        ensures told { Stays (seat_told self.old.sessions) (seat_told self.new.sessions) }
         ensures mesh { self.new.mesh ≡ self.old.mesh }
     {
         match &mut self.seats[session as usize - 1] {
@@ -67,7 +67,7 @@ impl<'m> Seats<'m> {
             (StopsRound session (words_seen words.old) self.old (words_seen words.new) self.new) }
         ensures seated { AreSeated self.new.mesh (words_seen words.new) self.new.sessions }
         ensures words { KeepsWords session (words_seen words.old) (words_seen words.new) }
-        ensures told { Stays (told_at self.old.sessions) (told_at self.new.sessions) }
+        ensures told { Stays (seat_told self.old.sessions) (seat_told self.new.sessions) }
         ensures mesh { self.new.mesh ≡ self.old.mesh }
     {
         match &mut self.seats[session as usize - 1] {
@@ -84,7 +84,7 @@ impl<'m> Seats<'m> {
             (words_seen words.old) self.old (words_seen words.new) self.new }
         ensures seated { AreSeated self.new.mesh (words_seen words.new) self.new.sessions }
         ensures words { KeepsWords session (words_seen words.old) (words_seen words.new) }
-        ensures told { Stays (told_at self.old.sessions) (told_at self.new.sessions) }
+        ensures told { Stays (seat_told self.old.sessions) (seat_told self.new.sessions) }
         ensures mesh { self.new.mesh ≡ self.old.mesh }
     {
         self.release(words, session)
@@ -98,7 +98,7 @@ impl<'m> Seats<'m> {
             (words_seen words.new) self.new }
         ensures seated { AreSeated self.new.mesh (words_seen words.new) self.new.sessions }
         ensures words { KeepsWords session (words_seen words.old) (words_seen words.new) }
-        ensures told { Stays (told_at self.old.sessions) (told_at self.new.sessions) }
+        ensures told { Stays (seat_told self.old.sessions) (seat_told self.new.sessions) }
         ensures mesh { self.new.mesh ≡ self.old.mesh }
     {
         match &mut self.seats[session as usize - 1] {

@@ -1,4 +1,5 @@
-//! The journal of two patches that come at once, and what a tier takes and gives up by its wishes.
+//! The journal of two patches that come at once, and what a tier takes and gives up by its wishes: the changes that
+//! the tests make, each where it may be made.
 
 ghost use Rattle.std.specs.Prelude.{◌≡◌, ◌+◌, ◌≤◌, Some, None, [], true, false, length, slice_get, slice_index};
 ghost use Rattle.tier_model.specs.declared.turns.Turn.TheVariants.{Reserve, Got};
@@ -6,6 +7,9 @@ ghost use Rattle.tier_model.specs.Places.{is_marked};
 ghost use Rattle.tier_model.specs.Tiers.{load, size, places, IsBodyFor};
 ghost use Rattle.tier_budget.specs.TierView.{Allows};
 ghost use Rattle.view_outside.specs.Files.{HasFile};
+
+mod coming_at_once;
+mod ranking;
 
 use super::Tier;
 use crate::coming::{comes, first_patch, first_without_body};
@@ -214,149 +218,6 @@ fn least_held(tier: &Tier, below: u32) -> Option<u32> {
         return None;
     }
     tier.least_held(below)
-}
-
-/// The tier reserves patches 2 and 3, the last two that it has room for.
-fn reserves_two(rt: &impl process::Abort, tier: &mut Tier) -> Result<(), Fail> {
-    reserve(tier, 2)?;
-    reserve(tier, 3)?;
-    let bare = [
-        Coming {
-            patch: 2,
-            has_body: false,
-        },
-        Coming {
-            patch: 3,
-            has_body: false,
-        },
-    ];
-    assert_eq!(rt; tier.coming(), bare.as_slice());
-    assert_eq!(rt;
-        (tier.budget(), tier.load(), tier.held_count(), tier.width()),
-        (240, 240, 2, 2)
-    );
-    Ok(())
-}
-
-/// Both arrive, and then both are committed.
-fn takes_two(tier: &mut Tier, third: &Arc<Body>, fourth: &Arc<Body>) -> Result<(), Fail> {
-    arrive(tier, third.clone()?)?;
-    arrive(tier, fourth.clone()?)?;
-    commit(tier)?;
-    commit(tier)
-}
-
-/// What the tier holds then, and its journal.
-fn holds_four(rt: &impl process::Abort, tier: &Tier) {
-    assert_eq!(rt;
-        (tier.load(), tier.held_count(), tier.pinned_bytes()),
-        (240, 4, 120)
-    );
-    let journal = [
-        Turn::Reserve(2),
-        Turn::Reserve(3),
-        Turn::Got(2),
-        Turn::Got(3),
-        Turn::Commit(2),
-        Turn::Commit(3),
-    ];
-    assert_eq!(rt; tier.journal(), Some(journal.as_slice()));
-}
-
-/// Two patches are pinned, and then two come at once.
-fn pins_and_takes(
-    rt: &impl process::Abort,
-    tier: &mut Tier,
-    bodies: [&Arc<Body>; 4],
-) -> Result<(), Fail> {
-    let [first, second, third, fourth] = bodies;
-    pin(tier, first.clone()?)?;
-    pin(tier, second.clone()?)?;
-    reserves_two(rt, tier)?;
-    takes_two(tier, third, fourth)?;
-    holds_four(rt, tier);
-    Ok(())
-}
-
-#[test]
-fn two_patches_come_at_once(rt: HostRuntime) -> Result<(), Fail> {
-    let alloc = rt.alloc();
-    let (index, bodies) = strip_bodies(alloc)?;
-    let [first, second, third, fourth, ..] = bodies.as_slice() else {
-        return Err(Fail::from("fewer patches"));
-    };
-    let mut tier = Tier::with_width(alloc, &index, 240, 2)?;
-    pins_and_takes(&rt, &mut tier, [first, second, third, fourth])
-}
-
-/// The highest of the missing patches, of all and of some. Patches 0 and 1 lead from the root, and 6 isn't wished.
-fn takes_the_highest(rt: &impl process::Abort, tier: &mut Tier) -> Result<(), Fail> {
-    rank(tier, [9, 9, 3, 5, 5, 4, 0])?;
-    assert_eq!(rt; tier.greatest_missing(|_| true), Some(3));
-    assert_eq!(rt; tier.greatest_missing(|patch| patch > 3), Some(4));
-    assert_eq!(rt; tier.greatest_missing(|patch| patch > 5), None);
-    Ok(())
-}
-
-/// Patch 2 comes, and is the least that is held below patch 3, and none is below patch 6.
-fn gives_up_the_lowest(
-    rt: &impl process::Abort,
-    tier: &mut Tier,
-    third: &Arc<Body>,
-) -> Result<(), Fail> {
-    reserve(tier, 2)?;
-    arrive(tier, third.clone()?)?;
-    commit(tier)?;
-    assert_eq!(rt; (least_held(tier, 3), least_held(tier, 6)), (Some(2), None));
-    Ok(())
-}
-
-/// A patch that failed is put aside, one that was lost isn't.
-fn puts_aside(rt: &impl process::Abort, tier: &mut Tier) -> Result<(), Fail> {
-    reserve(tier, 3)?;
-    abort(tier, Abort::Fault)?;
-    assert_eq!(rt; tier.greatest_missing(|_| true), Some(4));
-    reserve(tier, 4)?;
-    abort(tier, Abort::Lost)?;
-    assert_eq!(rt; tier.greatest_missing(|_| true), Some(4));
-    Ok(())
-}
-
-/// The journal of all that, when patch 2 has left.
-fn has_told_all(rt: &impl process::Abort, tier: &mut Tier) -> Result<(), Fail> {
-    drop_held(tier, 2)?;
-    assert_eq!(rt; (tier.load(), tier.held_count(), tier.version()), (0, 0, 1));
-    let journal = [
-        Turn::Reserve(2),
-        Turn::Got(2),
-        Turn::Commit(2),
-        Turn::Reserve(3),
-        Turn::Fault(3),
-        Turn::Reserve(4),
-        Turn::Lost(4),
-        Turn::Evict(2),
-    ];
-    assert_eq!(rt; tier.journal(), Some(journal.as_slice()));
-    Ok(())
-}
-
-/// All that, one after the other.
-fn is_told_all(rt: &impl process::Abort, tier: &mut Tier, third: &Arc<Body>) -> Result<(), Fail> {
-    takes_the_highest(rt, tier)?;
-    gives_up_the_lowest(rt, tier, third)?;
-    puts_aside(rt, tier)?;
-    has_told_all(rt, tier)
-}
-
-#[test]
-fn takes_the_highest_and_gives_up_the_lowest(rt: HostRuntime) -> Result<(), Fail> {
-    let alloc = rt.alloc();
-    let (index, bodies) = strip_bodies(alloc)?;
-    let [_, _, third, ..] = bodies.as_slice() else {
-        return Err(Fail::from("fewer patches"));
-    };
-    let mut tier = Tier::new(alloc, &index, 120)?;
-    is_told_all(&rt, &mut tier, third)
 }
 
 /// A tier that doesn't keep its journal does the same, and tells none.

@@ -3,7 +3,7 @@
 ghost use Rattle.std.specs.Prelude.{◌≡◌, ◌+◌, ◌^◌, ◌<◌, ◌≤◌, None, Some, length, slice_get, OnOk, OnErr};
 ghost use Rattle.script_model.specs.declared.orders.Order.TheVariants as orders;
 ghost use Rattle.session_model.specs.Told.{SessionTold, just_opened, told_view};
-ghost use Rattle.session_seats.specs.Seats.{at_seat, IsOpen, told_at};
+ghost use Rattle.session_seats.specs.Seats.{at_seat, IsOpen, seat_told};
 ghost use Rattle.token_words.specs.Changes.{SetAt};
 ghost use Rattle.token_words.specs.Sessions.{IsSession};
 ghost use Rattle.run_model.specs.Lines.{DidOpen, DidView, Does};
@@ -26,8 +26,8 @@ impl<'a, S: Store> Machine<'a, S> {
             (DidOpen session) (run_state self.new)) }
         ensures none { OnErr result (self.new ≡ self.old) }
         ensures told { OnOk result
-            (SetAt (told_at self.old.seats.sessions) session (Some just_opened)
-            (told_at self.new.seats.sessions)) }
+            (SetAt (seat_told self.old.seats.sessions) session (Some just_opened)
+            (seat_told self.new.seats.sessions)) }
         ensures place { KeepsPlace self.old self.new }
         ensures board { self.new.board ≡ self.old.board }
         ensures chain { self.new.chain ≡ self.old.chain }
@@ -46,9 +46,9 @@ impl<'a, S: Store> Machine<'a, S> {
             (DidView session) (run_state self.new)) }
         ensures none { OnErr result (self.new ≡ self.old) }
         ensures told { OnOk result
-            ((told : SessionTold) → told_at self.old.seats.sessions session ≡ Some told
-            → SetAt (told_at self.old.seats.sessions) session (Some (told_view told view))
-            (told_at self.new.seats.sessions)) }
+            ((told : SessionTold) → seat_told self.old.seats.sessions session ≡ Some told
+            → SetAt (seat_told self.old.seats.sessions) session (Some (told_view told view))
+            (seat_told self.new.seats.sessions)) }
         ensures version { self.new.board.version ≤ self.old.board.version + 1 }
         ensures place { KeepsPlace self.old self.new }
         ensures chain { self.new.chain ≡ self.old.chain }

@@ -11,7 +11,7 @@ ghost use Rattle.token_words.specs.declared.entries.Entry.{Entry};
 ghost use Rattle.token_words.specs.declared.session_sets.TheConstants.{SESSIONS};
 ghost use Rattle.run_model.specs.Lines.{DidFrame, Does, frame_of, top_body};
 ghost use Rattle.session_seats.specs.Orders.{FinishesRound};
-ghost use Rattle.session_seats.specs.Seats.{SeatsSeen, at_seat, HasView, IsDoneAt, told_at};
+ghost use Rattle.session_seats.specs.Seats.{SeatsSeen, at_seat, HasView, IsDoneAt, seat_told};
 ghost use Rattle.session_model.specs.Told.{SessionTold, one_frame_more};
 ghost use Rattle.view_machine.specs.Machines.{world_of, run_state, state_in, KeepsPlace};
 ghost use Rattle.view_machine.specs.OwnStops.{StopsIn};
@@ -66,7 +66,7 @@ impl<'a, S: Store> Machine<'a, S> {
         ensures stops { StopsIn (world_of self.old) (run_state self.old) (orders.Frame session)
             (run_state self.new) }
         ensures mesh { self.new.seats.mesh ≡ self.old.seats.mesh }
-        ensures told { Stays (told_at self.old.seats.sessions) (told_at self.new.seats.sessions) }
+        ensures told { Stays (seat_told self.old.seats.sessions) (seat_told self.new.seats.sessions) }
         ensures place { KeepsPlace self.old self.new }
         ensures board { self.new.board ≡ self.old.board }
         ensures chain { self.new.chain ≡ self.old.chain }
@@ -114,9 +114,9 @@ impl<'a, S: Store> Machine<'a, S> {
             (DidFrame (frame_of self.old.chain.tiers session round.last round.done.round))
             (run_state self.new) }
         ensures told { (told : SessionTold)
-            → told_at self.old.seats.sessions session ≡ Some told
-            → SetAt (told_at self.old.seats.sessions) session (Some (one_frame_more told))
-            (told_at self.new.seats.sessions) }
+            → seat_told self.old.seats.sessions session ≡ Some told
+            → SetAt (seat_told self.old.seats.sessions) session (Some (one_frame_more told))
+            (seat_told self.new.seats.sessions) }
         ensures place { KeepsPlace self.old self.new }
         ensures board { self.new.board ≡ self.old.board }
         ensures chain { self.new.chain ≡ self.old.chain }
@@ -137,11 +137,11 @@ impl<'a, S: Store> Machine<'a, S> {
             (StopsIn (world_of self.old) (run_state self.old) (orders.Frame session)
             (run_state self.new)) }
         ensures told { OnOk result
-            ((told : SessionTold) → told_at self.old.seats.sessions session ≡ Some told
-            → SetAt (told_at self.old.seats.sessions) session (Some (one_frame_more told))
-            (told_at self.new.seats.sessions)) }
+            ((told : SessionTold) → seat_told self.old.seats.sessions session ≡ Some told
+            → SetAt (seat_told self.old.seats.sessions) session (Some (one_frame_more told))
+            (seat_told self.new.seats.sessions)) }
         ensures unprinted { OnErr result
-            (Stays (told_at self.old.seats.sessions) (told_at self.new.seats.sessions)) }
+            (Stays (seat_told self.old.seats.sessions) (seat_told self.new.seats.sessions)) }
         ensures place { KeepsPlace self.old self.new }
         ensures board { self.new.board ≡ self.old.board }
         ensures chain { self.new.chain ≡ self.old.chain }

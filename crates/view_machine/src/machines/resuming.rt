@@ -11,7 +11,7 @@ ghost use Rattle.cache_chain.specs.ChainStates.{states_of, AreTiersOf};
 ghost use Rattle.run_model.specs.Lines.{DidOpen, Does};
 ghost use Rattle.resumed_model.specs.Resting.{resting};
 ghost use Rattle.resumed_model.specs.Rejoins.{recounted, RejoinsAs};
-ghost use Rattle.session_seats.specs.Seats.{at_seat, empty_seats, IsOpen, told_at};
+ghost use Rattle.session_seats.specs.Seats.{at_seat, empty_seats, IsOpen, seat_told};
 ghost use Rattle.session_model.specs.Told.{SessionTold, just_opened, told_view, told_from};
 ghost use Rattle.view_machine.specs.Machines.{world_with, world_of, run_state, KeepsPlace};
 ghost use Rattle.view_machine.specs.RestMachines.{RestsOver};
@@ -82,9 +82,9 @@ impl<'a, S: Store> Machine<'a, S> {
         requires { IsOpen self.old.seats.sessions session }
         ensures state { run_state self.new ≡ recounted (run_state self.old) session frames }
         ensures told { (told : SessionTold)
-            → told_at self.old.seats.sessions session ≡ Some told
-            → SetAt (told_at self.old.seats.sessions) session (Some (told_from told frames))
-            (told_at self.new.seats.sessions) }
+            → seat_told self.old.seats.sessions session ≡ Some told
+            → SetAt (seat_told self.old.seats.sessions) session (Some (told_from told frames))
+            (seat_told self.new.seats.sessions) }
         ensures place { KeepsPlace self.old self.new }
         ensures board { self.new.board ≡ self.old.board }
         ensures chain { self.new.chain ≡ self.old.chain }
@@ -114,9 +114,9 @@ impl<'a, S: Store> Machine<'a, S> {
             ⊎ Does (world_of self.old) (run_state self.old) (orders.Open session)
             (DidOpen session) (run_state self.new)) }
         ensures told { OnOk result
-            (SetAt (told_at self.old.seats.sessions) session
+            (SetAt (seat_told self.old.seats.sessions) session
             (Some (told_from (told_view just_opened view) frames))
-            (told_at self.new.seats.sessions)) }
+            (seat_told self.new.seats.sessions)) }
         ensures version { self.new.board.version ≤ self.old.board.version + 1 }
         ensures place { KeepsPlace self.old self.new }
         ensures chain { self.new.chain ≡ self.old.chain }

@@ -5,7 +5,7 @@ ghost use Rattle.script_model.specs.declared.orders.Order.TheVariants as orders;
 ghost use Rattle.token_words.specs.Changes.{SetAt, Stays};
 ghost use Rattle.token_words.specs.Sessions.{IsSession};
 ghost use Rattle.run_model.specs.Lines.{DidClose, DidFree, DidStep, Does};
-ghost use Rattle.session_seats.specs.Seats.{at_seat, IsOpen, HasView, told_at};
+ghost use Rattle.session_seats.specs.Seats.{at_seat, IsOpen, HasView, seat_told};
 ghost use Rattle.session_model.specs.Told.{SessionTold, just_opened, told_view};
 ghost use Rattle.view_machine.specs.Machines.{world_of, run_state, KeepsPlace};
 ghost use Rattle.view_machine.specs.OwnStops.{StopsIn};
@@ -30,8 +30,8 @@ impl<'a, S: Store> Machine<'a, S> {
             (run_state self.new) text.items) }
         ensures none { OnErr result (self.new ≡ self.old) }
         ensures told { OnOk result
-            (SetAt (told_at self.old.seats.sessions) session (Some just_opened)
-            (told_at self.new.seats.sessions)) }
+            (SetAt (seat_told self.old.seats.sessions) session (Some just_opened)
+            (seat_told self.new.seats.sessions)) }
         ensures place { KeepsPlace self.old self.new }
         ensures board { self.new.board ≡ self.old.board }
         ensures chain { self.new.chain ≡ self.old.chain }
@@ -52,9 +52,9 @@ impl<'a, S: Store> Machine<'a, S> {
             (run_state self.new) text.items) }
         ensures none { OnErr result (self.new ≡ self.old) }
         ensures told { OnOk result
-            ((told : SessionTold) → told_at self.old.seats.sessions session ≡ Some told
-            → SetAt (told_at self.old.seats.sessions) session (Some (told_view told view))
-            (told_at self.new.seats.sessions)) }
+            ((told : SessionTold) → seat_told self.old.seats.sessions session ≡ Some told
+            → SetAt (seat_told self.old.seats.sessions) session (Some (told_view told view))
+            (seat_told self.new.seats.sessions)) }
         ensures version { self.new.board.version ≤ self.old.board.version + 1 }
         ensures place { KeepsPlace self.old self.new }
         ensures chain { self.new.chain ≡ self.old.chain }
@@ -75,7 +75,7 @@ impl<'a, S: Store> Machine<'a, S> {
         ensures none { OnErr result
             (StopsIn (world_of self.old) (run_state self.old) (orders.Step session)
             (run_state self.new)) }
-        ensures told { Stays (told_at self.old.seats.sessions) (told_at self.new.seats.sessions) }
+        ensures told { Stays (seat_told self.old.seats.sessions) (seat_told self.new.seats.sessions) }
         ensures place { KeepsPlace self.old self.new }
         ensures board { self.new.board ≡ self.old.board }
         ensures chain { self.new.chain ≡ self.old.chain }
@@ -93,7 +93,7 @@ impl<'a, S: Store> Machine<'a, S> {
         ensures none { OnErr result
             (StopsIn (world_of self.old) (run_state self.old) (orders.Step session)
             (run_state self.new)) }
-        ensures told { Stays (told_at self.old.seats.sessions) (told_at self.new.seats.sessions) }
+        ensures told { Stays (seat_told self.old.seats.sessions) (seat_told self.new.seats.sessions) }
         ensures place { KeepsPlace self.old self.new }
         ensures board { self.new.board ≡ self.old.board }
         ensures chain { self.new.chain ≡ self.old.chain }
@@ -109,7 +109,7 @@ impl<'a, S: Store> Machine<'a, S> {
         requires { IsOpen self.old.seats.sessions session }
         ensures does { Does (world_of self.old) (run_state self.old) (orders.Free session)
             (DidFree session result) (run_state self.new) }
-        ensures told { Stays (told_at self.old.seats.sessions) (told_at self.new.seats.sessions) }
+        ensures told { Stays (seat_told self.old.seats.sessions) (seat_told self.new.seats.sessions) }
         ensures place { KeepsPlace self.old self.new }
         ensures board { self.new.board ≡ self.old.board }
         ensures chain { self.new.chain ≡ self.old.chain }
@@ -127,7 +127,7 @@ impl<'a, S: Store> Machine<'a, S> {
         ensures none { OnErr result
             (StopsIn (world_of self.old) (run_state self.old) (orders.Free session)
             (run_state self.new)) }
-        ensures told { Stays (told_at self.old.seats.sessions) (told_at self.new.seats.sessions) }
+        ensures told { Stays (seat_told self.old.seats.sessions) (seat_told self.new.seats.sessions) }
         ensures place { KeepsPlace self.old self.new }
         ensures board { self.new.board ≡ self.old.board }
         ensures chain { self.new.chain ≡ self.old.chain }
@@ -145,8 +145,8 @@ impl<'a, S: Store> Machine<'a, S> {
         requires few { self.old.board.version < 2 ^ 63 }
         ensures does { Does (world_of self.old) (run_state self.old) (orders.Close session)
             (DidClose session result) (run_state self.new) }
-        ensures told { SetAt (told_at self.old.seats.sessions) session None
-            (told_at self.new.seats.sessions) }
+        ensures told { SetAt (seat_told self.old.seats.sessions) session None
+            (seat_told self.new.seats.sessions) }
         ensures version { self.new.board.version ≤ self.old.board.version + 1 }
         ensures place { KeepsPlace self.old self.new }
         ensures chain { self.new.chain ≡ self.old.chain }
@@ -165,8 +165,8 @@ impl<'a, S: Store> Machine<'a, S> {
         ensures none { OnErr result
             (StopsIn (world_of self.old) (run_state self.old) (orders.Close session)
             (run_state self.new)) }
-        ensures told { SetAt (told_at self.old.seats.sessions) session None
-            (told_at self.new.seats.sessions) }
+        ensures told { SetAt (seat_told self.old.seats.sessions) session None
+            (seat_told self.new.seats.sessions) }
         ensures version { self.new.board.version ≤ self.old.board.version + 1 }
         ensures place { KeepsPlace self.old self.new }
         ensures chain { self.new.chain ≡ self.old.chain }

@@ -5,7 +5,7 @@ ghost use Rattle.script_model.specs.declared.orders.Order.TheVariants as orders;
 ghost use Rattle.session_model.specs.DoneRounds.{HasDone};
 ghost use Rattle.session_model.specs.Sessions.{SessionState};
 ghost use Rattle.session_model.specs.Told.{SessionTold, one_frame_more};
-ghost use Rattle.session_seats.specs.Seats.{at_seat, HasView, IsDoneAt, told_at};
+ghost use Rattle.session_seats.specs.Seats.{at_seat, HasView, IsDoneAt, seat_told};
 ghost use Rattle.token_words.specs.Changes.{SetAt, Stays};
 ghost use Rattle.view_machine.specs.LineEnds.{frames_at};
 ghost use Rattle.view_machine.specs.Machines.{world_of, run_state, KeepsPlace};
@@ -51,11 +51,11 @@ impl<'a, S: Store> Machine<'a, S> {
             (StopsIn (world_of self.old) (run_state self.old) (orders.Frame session)
             (run_state self.new)) }
         ensures told { OnOk result
-            ((told : SessionTold) → told_at self.old.seats.sessions session ≡ Some told
-            → SetAt (told_at self.old.seats.sessions) session (Some (one_frame_more told))
-            (told_at self.new.seats.sessions)) }
+            ((told : SessionTold) → seat_told self.old.seats.sessions session ≡ Some told
+            → SetAt (seat_told self.old.seats.sessions) session (Some (one_frame_more told))
+            (seat_told self.new.seats.sessions)) }
         ensures unprinted { OnErr result
-            (Stays (told_at self.old.seats.sessions) (told_at self.new.seats.sessions)) }
+            (Stays (seat_told self.old.seats.sessions) (seat_told self.new.seats.sessions)) }
         ensures place { KeepsPlace self.old self.new }
         ensures board { self.new.board ≡ self.old.board }
         ensures chain { self.new.chain ≡ self.old.chain }

@@ -12,7 +12,7 @@ returns-in-Answer-clause-asks g c =
     let question = seen c.args.question.now in
     let part = part_when l.Sends l.Receives question c.args.link.now t.under_way true t.failures t.strays t.link
     c.if-under_way.true t.invariant.part in
-    part_answered l.Sends l.Receives question c.args.link.now t.failures t.strays c.tries-test.true
+    part_answered l.Sends l.Receives question c.args.link.now t.failures t.strays (omega (arith, c.tries-test.true))
     c.if-strays-lt128.true t.link c.receive_once.new.link (take c.in-Answer.n c.receive_once.new.buffer)
     c.in-Answer.ensures.arrives part
 
@@ -27,7 +27,7 @@ tries-preserved-in-Refusal g c =
     let part = part_when l.Sends l.Receives question start t.under_way true t.failures t.strays t.link
     c.if-under_way.true t.invariant.part in
     record {
-      part = part_refused l.Sends l.Receives question start t.failures t.strays c.tries-test.true
+      part = part_refused l.Sends l.Receives question start t.failures t.strays (omega (arith, c.tries-test.true))
           c.if-strays-lt128.true t.link next e.arrives part;
       sent = sent_now (l.last next) question false (t.failures + 1) t.strays
           (e.last ∙ t.invariant.sent.sent c.if-under_way.true);
@@ -51,7 +51,7 @@ tries-preserved-in-Nothing g c =
     let part = part_when l.Sends l.Receives question start t.under_way true t.failures t.strays t.link
     c.if-under_way.true t.invariant.part in
     record {
-      part = part_none_came l.Sends l.Receives question start t.failures t.strays c.tries-test.true
+      part = part_none_came l.Sends l.Receives question start t.failures t.strays (omega (arith, c.tries-test.true))
           c.if-strays-lt128.true t.link next e.arrives part;
       sent = sent_now (l.last next) question false (t.failures + 1) t.strays
           (e.last ∙ t.invariant.sent.sent c.if-under_way.true);
@@ -77,7 +77,7 @@ tries-preserved-in-Stray g c =
     t.invariant.part in
     record {
       part = part_when l.Sends l.Receives question start true t.under_way t.failures (t.strays + 1) next (sym under)
-          (part_strayed l.Sends l.Receives question start t.failures t.strays c.tries-test.true
+          (part_strayed l.Sends l.Receives question start t.failures t.strays (omega (arith, c.tries-test.true))
           c.if-strays-lt128.true t.link next e.arrives part);
       sent = sent_now (l.last next) question t.under_way t.failures (t.strays + 1)
           (e.last ∙ t.invariant.sent.sent under);
@@ -108,7 +108,7 @@ tries-preserved-in-Ok g c =
     let part = part_when l.Sends l.Receives question start t.under_way false t.failures t.strays t.link
     c.if-under_way.false t.invariant.part in
     record {
-      part = part_sent l.Sends l.Receives question start t.failures t.strays c.tries-test.true
+      part = part_sent l.Sends l.Receives question start t.failures t.strays (omega (arith, c.tries-test.true))
           c.if-strays-lt128.true t.link next (subst (λ m. l.Sends t.link m true next) text e.step) part;
       sent = sent_now (l.last next) question true t.failures t.strays (e.last ∙ ap Some text);
       far = e.far ∙ t.invariant.far;
@@ -136,7 +136,7 @@ tries-preserved g c =
     t.invariant.part in
     record {
       part = part_when l.Sends l.Receives question start false t.under_way (t.failures + 1) t.strays next (sym idle)
-          (part_not_sent l.Sends l.Receives question start t.failures t.strays c.tries-test.true
+          (part_not_sent l.Sends l.Receives question start t.failures t.strays (omega (arith, c.tries-test.true))
           c.if-strays-lt128.true t.link next (subst (λ m. l.Sends t.link m false next) text e.step) part);
       sent = sent_now (l.last next) question t.under_way (t.failures + 1) t.strays (e.last ∙ ap Some text);
       far = e.far ∙ t.invariant.far;

@@ -1,5 +1,5 @@
 use Rattle.std.proofs.Common.{rules, refl}
-use Rattle.link_outside.specs.Messages.{IsMessage, AsksName}
+use Rattle.view_outside.specs.Messages.{IsMessage, AsksName}
 use Rattle.patch_link.specs.AskingLaws.{above_next}
 use Rattle.patch_link.proofs.questions.ask_name.Goals as goal
 

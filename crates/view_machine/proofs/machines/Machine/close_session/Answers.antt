@@ -1,6 +1,6 @@
 use Rattle.std.proofs.Common.{ℕ, ◌+◌, ◌<◌, ◌≤◌, ◌^◌, List, Option, None, refl, sym, subst, ◌∙◌}
 use Rattle.token_words.specs.Changes.{SetAt}
-use Rattle.session_seats.specs.Seats.{told_at, SeatsSeen, AreSeated}
+use Rattle.session_seats.specs.Seats.{seat_told, SeatsSeen, AreSeated}
 use Rattle.session_seats.specs.BoardLaws.{taken_off_version}
 use Rattle.wish_board.specs.Boards.{without_view, BoardSeen}
 use Rattle.mesh_model.specs.Meshes.{MeshLists}
@@ -82,7 +82,7 @@ returns-clause-place g c =
 
 pub returns-clause-told : goal.returns-clause-told
 returns-clause-told g c =
-    subst (λ (m : MachineSeen g.row.S.Denot). SetAt (told_at m.seats.sessions) c.args.session None (told_at (seats_now g c).sessions)) c.self.view_is c.close.ensures.told
+    subst (λ (m : MachineSeen g.row.S.Denot). SetAt (seat_told m.seats.sessions) c.args.session None (seat_told (seats_now g c).sessions)) c.self.view_is c.close.ensures.told
 
 pub returns-clause-version : goal.returns-clause-version
 returns-clause-version g c =

@@ -7,7 +7,7 @@ use Rattle.token_words.specs.declared.entries.Entry.{Entry}
 use Rattle.tier_model.specs.Tiers.{TierState}
 use Rattle.wish_board.specs.Boards.{BoardSeen}
 use Rattle.resumed_model.specs.Rejoins.{recounted}
-use Rattle.session_seats.specs.Seats.{SeatsSeen, AreSeated, IsOpen, told_at}
+use Rattle.session_seats.specs.Seats.{SeatsSeen, AreSeated, IsOpen, seat_told}
 use Rattle.session_model.specs.Told.{SessionTold, told_from}
 use Rattle.view_machine.specs.Machines.{MachineSeen, run_state, state_in, KeepsPlace, IsMachine}
 use Rattle.view_machine.specs.RestMachines.{counted_state, counted_machine}
@@ -65,7 +65,7 @@ returns-clause-state g c =
 
 pub returns-clause-told : goal.returns-clause-told
 returns-clause-told g c =
-    subst (λ (m : MachineSeen g.row.S.Denot). (told : SessionTold) → told_at m.seats.sessions c.args.session ≡ Some told → SetAt (told_at m.seats.sessions) c.args.session (Some (told_from told c.args.frames)) (told_at (seats_now g c).sessions)) c.self.view_is c.count_from.ensures.told
+    subst (λ (m : MachineSeen g.row.S.Denot). (told : SessionTold) → seat_told m.seats.sessions c.args.session ≡ Some told → SetAt (seat_told m.seats.sessions) c.args.session (Some (told_from told c.args.frames)) (seat_told (seats_now g c).sessions)) c.self.view_is c.count_from.ensures.told
 
 pub returns-clause-place : goal.returns-clause-place
 returns-clause-place g c =

@@ -9,7 +9,7 @@ use Rattle.token_words.specs.declared.entries.Entry.{Entry}
 use Rattle.tier_model.specs.Tiers.{TierState}
 use Rattle.wish_board.specs.Boards.{BoardSeen}
 use Rattle.session_seats.specs.Orders.{FinishesRound}
-use Rattle.session_seats.specs.Seats.{SeatsSeen, AreSeated, told_at}
+use Rattle.session_seats.specs.Seats.{SeatsSeen, AreSeated, seat_told}
 use Rattle.view_machine.specs.Machines.{MachineSeen, world_of, run_state, world_with, state_in, KeepsPlace, IsMachine}
 use Rattle.view_machine.specs.MachineLaws.{KeepsMachine}
 use Rattle.view_machine.specs.SeatLines.{finish_stops, stop_keeps}
@@ -76,7 +76,7 @@ returns-clause-stops g c =
 
 pub returns-clause-told : goal.returns-clause-told
 returns-clause-told g c =
-    subst (λ (m : MachineSeen g.row.S.Denot). Stays (told_at m.seats.sessions) (told_at (seats_now g c).sessions)) c.self.view_is c.finish.ensures.told
+    subst (λ (m : MachineSeen g.row.S.Denot). Stays (seat_told m.seats.sessions) (seat_told (seats_now g c).sessions)) c.self.view_is c.finish.ensures.told
 
 pub returns-clause-place : goal.returns-clause-place
 returns-clause-place g c =

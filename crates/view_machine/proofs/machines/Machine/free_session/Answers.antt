@@ -1,6 +1,6 @@
 use Rattle.std.proofs.Common.{ℕ, List, Option, refl, sym, subst}
 use Rattle.token_words.specs.Changes.{Stays}
-use Rattle.session_seats.specs.Seats.{told_at, SeatsSeen, AreSeated}
+use Rattle.session_seats.specs.Seats.{seat_told, SeatsSeen, AreSeated}
 use Rattle.mesh_model.specs.Meshes.{MeshLists}
 use Rattle.view_outside.specs.Files.{file_bytes}
 use Rattle.script_model.specs.declared.orders.Order.TheVariants as orders
@@ -72,4 +72,4 @@ returns-clause-place g c =
 
 pub returns-clause-told : goal.returns-clause-told
 returns-clause-told g c =
-    subst (λ (m : MachineSeen g.row.S.Denot). Stays (told_at m.seats.sessions) (told_at (seats_now g c).sessions)) c.self.view_is c.free.ensures.told
+    subst (λ (m : MachineSeen g.row.S.Denot). Stays (seat_told m.seats.sessions) (seat_told (seats_now g c).sessions)) c.self.view_is c.free.ensures.told

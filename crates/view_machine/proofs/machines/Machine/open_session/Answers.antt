@@ -1,6 +1,6 @@
 use Rattle.std.proofs.Common.{Some, refl, subst}
 use Rattle.token_words.specs.Changes.{SetAt}
-use Rattle.session_seats.specs.Seats.{told_at}
+use Rattle.session_seats.specs.Seats.{seat_told}
 use Rattle.session_model.specs.Told.{just_opened}
 use Rattle.view_outside.specs.Files.{file_bytes}
 use Rattle.script_model.specs.declared.orders.Order.TheVariants as orders
@@ -33,4 +33,4 @@ returns-clause-does g c =
 
 pub returns-clause-told : goal.returns-clause-told
 returns-clause-told g c =
-    subst (λ (seen : MachineSeen g.row.S.Denot). SetAt (told_at seen.seats.sessions) c.args.session (Some just_opened) (told_at c.open.new.self.sessions)) c.self.view_is c.in_ok-open.ensures.told
+    subst (λ (seen : MachineSeen g.row.S.Denot). SetAt (seat_told seen.seats.sessions) c.args.session (Some just_opened) (seat_told c.open.new.self.sessions)) c.self.view_is c.in_ok-open.ensures.told

@@ -11,7 +11,7 @@ use Rattle.tier_model.specs.Tiers.{TierState}
 use Rattle.wish_board.specs.Boards.{BoardSeen}
 use Rattle.run_model.specs.Lines.{DidFrame, Does, frame_of}
 use Rattle.session_seats.specs.Orders.{FinishesRound}
-use Rattle.session_seats.specs.Seats.{SeatsSeen, at_seat, with_seat, AreSeated, IsDoneAt, told_at}
+use Rattle.session_seats.specs.Seats.{SeatsSeen, at_seat, with_seat, AreSeated, IsDoneAt, seat_told}
 use Rattle.session_model.specs.Told.{SessionTold, one_frame_more}
 use Rattle.view_machine.specs.Machines.{MachineSeen, world_of, state_in, KeepsPlace, IsMachine}
 use Rattle.view_machine.specs.MachineLaws.{KeepsMachine}
@@ -83,7 +83,7 @@ returns-clause-does g c =
 
 pub returns-clause-told : goal.returns-clause-told
 returns-clause-told g c =
-    subst (λ (m : MachineSeen g.row.S.Denot). (told : SessionTold) → told_at m.seats.sessions c.args.session ≡ Some told → SetAt (told_at m.seats.sessions) c.args.session (Some (one_frame_more told)) (told_at (seats_now g c).sessions)) c.self.view_is c.printed.ensures.told
+    subst (λ (m : MachineSeen g.row.S.Denot). (told : SessionTold) → seat_told m.seats.sessions c.args.session ≡ Some told → SetAt (seat_told m.seats.sessions) c.args.session (Some (one_frame_more told)) (seat_told (seats_now g c).sessions)) c.self.view_is c.printed.ensures.told
 
 pub returns-clause-place : goal.returns-clause-place
 returns-clause-place g c =

@@ -1,6 +1,6 @@
 use Rattle.std.proofs.Common.{◌<◌, ◌^◌, Some, sym, subst}
 use Rattle.wish_board.specs.Boards.{BoardSeen}
-use Rattle.session_seats.specs.Seats.{told_at}
+use Rattle.session_seats.specs.Seats.{seat_told}
 use Rattle.session_seats.specs.SeatLaws.{open_where_told}
 use Rattle.session_model.specs.Told.{just_opened, told_view, told_from}
 use Rattle.view_machine.specs.Machines.{world_of, run_state}
@@ -35,6 +35,6 @@ returns-clause-told g c =
     let opened = c.in_ok-open_session.ensures.told in
     let told = c.in_ok-set_view.ensures.told just_opened opened.here in
     let view = told_view just_opened c.args.view in
-    set_twice (told_at old.seats.sessions) (told_at viewed.seats.sessions) (told_at c.count_from.new.self.seats.sessions) c.args.session (Some view) (Some (told_from view c.args.frames))
-    (set_twice (told_at old.seats.sessions) (told_at mid.seats.sessions) (told_at viewed.seats.sessions) c.args.session (Some just_opened) (Some view) opened told)
+    set_twice (seat_told old.seats.sessions) (seat_told viewed.seats.sessions) (seat_told c.count_from.new.self.seats.sessions) c.args.session (Some view) (Some (told_from view c.args.frames))
+    (set_twice (seat_told old.seats.sessions) (seat_told mid.seats.sessions) (seat_told viewed.seats.sessions) c.args.session (Some just_opened) (Some view) opened told)
     (c.count_from.ensures.told view told.here)

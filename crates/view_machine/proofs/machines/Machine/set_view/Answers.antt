@@ -1,6 +1,6 @@
 use Rattle.std.proofs.Common.{◌≡◌, ◌+◌, ◌<◌, ◌≤◌, ◌^◌, Some, refl, sym, ap, subst, ◌∙◌, arith}
 use Rattle.token_words.specs.Changes.{SetAt}
-use Rattle.session_seats.specs.Seats.{told_at, AreSeated}
+use Rattle.session_seats.specs.Seats.{seat_told, AreSeated}
 use Rattle.session_model.specs.Told.{SessionTold, told_view}
 use Rattle.session_seats.specs.Boards.{posted_on, posting_view, IsBoardFor}
 use Rattle.session_seats.specs.BoardLaws.{posted_version}
@@ -44,7 +44,7 @@ returns-clause-does g c =
 
 pub returns-clause-told : goal.returns-clause-told
 returns-clause-told g c =
-    subst (λ (seen : MachineSeen g.row.S.Denot). (told : SessionTold) → told_at seen.seats.sessions c.args.session ≡ Some told → SetAt (told_at seen.seats.sessions) c.args.session (Some (told_view told c.args.view)) (told_at c.set_view.new.self.sessions)) c.self.view_is c.in_ok-set_view.ensures.told
+    subst (λ (seen : MachineSeen g.row.S.Denot). (told : SessionTold) → seat_told seen.seats.sessions c.args.session ≡ Some told → SetAt (seat_told seen.seats.sessions) c.args.session (Some (told_view told c.args.view)) (seat_told c.set_view.new.self.sessions)) c.self.view_is c.in_ok-set_view.ensures.told
 
 pub returns-clause-version : goal.returns-clause-version
 returns-clause-version g c =

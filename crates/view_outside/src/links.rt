@@ -6,11 +6,11 @@ ghost use Rattle.std.specs.Option.{option_map};
 ghost use Rattle.std.specs.Result.{result_ok};
 ghost use Rattle.view_outside.specs.Faults.{HasCause};
 ghost use Rattle.view_outside.specs.Files.{Named};
-ghost use Rattle.link_outside.specs.Messages.{MessageSeen, message_number, is_question, IsMessage};
-ghost use Rattle.link_outside.specs.Links.{counted_after, IsThere, IsAbove, MaySend, IsHonestly, StepsTo, Asks};
-ghost use Rattle.link_outside.specs.Links.{IsBounded};
+ghost use Rattle.view_outside.specs.Messages.{MessageSeen, message_number, is_question, IsMessage};
+ghost use Rattle.view_outside.specs.Links.{counted_after, IsThere, IsAbove, MaySend, IsHonestly, StepsTo, Asks};
+ghost use Rattle.view_outside.specs.Links.{IsBounded};
 
-use view_outside::Failed;
+use crate::Failed;
 
 /// A way to the far side of a file. Messages that are sent or come may be lost; what comes may be old, come again, or
 /// come in any order.

@@ -4,8 +4,8 @@ use Rattle.std.specs.Prelude.{min, max}
 use Rattle.std.specs.Prelude.{List, length, take, Option, None, Some, ⊤}
 use Rattle.view_outside.specs.Faults.{Rose}
 use Rattle.view_outside.specs.Files.{Named, HasFile, HasName, Finds, ReadsFile, TellsBytes}
-use Rattle.link_outside.specs.Messages.{MessageSeen, AsksBytes, GivesBytes, AsksName, GivesFile, SaysFailed}
-use Rattle.link_outside.specs.Messages.{message_number, is_question, message_text, message_in}
+use Rattle.view_outside.specs.Messages.{MessageSeen, AsksBytes, GivesBytes, AsksName, GivesFile, SaysFailed}
+use Rattle.view_outside.specs.Messages.{message_number, is_question, message_text, message_in}
 
 -- the count after a call that was to be counted or not: it stays at the last value of a `u64`
 abbrev pub counted_after : Bool → ℕ → ℕ
