@@ -3,3 +3,8 @@ pub mod OwnLines
 pub mod SharedSeats
 pub mod ServedOrders
 pub mod SeatLaws
+pub mod RoundPatches
+pub mod FrameLines
+pub mod SessionLines
+pub mod LineLaws
+pub mod OwnOrders

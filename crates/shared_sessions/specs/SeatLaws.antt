@@ -9,7 +9,7 @@ use Rattle.mesh_model.specs.Meshes.{MeshLists}
 use Rattle.round_model.specs.Refiners.{Refining}
 use Rattle.round_model.specs.Views.{ViewSeen}
 use Rattle.script_model.specs.declared.orders.Order.TheVariants as orders
-use Rattle.session_model.specs.Sessions.{SessionState, locks, is_in_flight, uses, opened, with_view, round_ended, printed_once}
+use Rattle.session_model.specs.Sessions.{SessionState, locks, is_in_flight, opened, with_view, round_ended, printed_once}
 use Rattle.session_model.specs.Freeing.{FreesAll}
 use Rattle.session_laws.specs.StateLaws.{opened_uses}
 use Rattle.session_locks.specs.Sessions.{SessionSeen, session_of, with_state, IsSession}
