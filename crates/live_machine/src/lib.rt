@@ -4,12 +4,14 @@
 #![tactic(auto)]
 
 mod answering;
+mod driving;
 mod judging;
 mod obeying;
 mod refusals;
 mod stepping;
 
 pub use answering::answer;
+pub use driving::drive;
 pub use judging::judge;
 pub use obeying::obey;
 pub use refusals::DriveRefusal;

@@ -129,6 +129,8 @@ pub fn answer_next<S: Store, I: Source, O: Sink>(
     ensures keeps { LineKeeps machine.old machine.new (S.files machine.old.chain.store)
         (S.files machine.new.chain.store) (S.faults machine.old.chain.store)
         (S.faults machine.new.chain.store) }
+    ensures source_later { I.faults source.old ≤ I.faults source.new }
+    ensures sink_later { O.faults sink.old ≤ O.faults sink.new }
     ensures read_fault { IfErr result
         (OnlyIf ReadFault (Rose (I.faults source.old) (I.faults source.new))) }
     ensures write_fault { IfErr result

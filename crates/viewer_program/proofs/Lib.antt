@@ -2,6 +2,7 @@ pub mod ConvertLemmas
 pub mod EndingLemmas
 pub mod IndexLemmas
 pub mod PlayLemmas
+pub mod LiveLemmas
 pub mod PlayWords
 pub mod RunFailures
 pub mod RunLemmas

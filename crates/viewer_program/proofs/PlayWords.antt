@@ -9,7 +9,7 @@ use Rattle.viewer_program.specs.declared.commands.FileCommand.{FileCommand}
 use Rattle.viewer_program.specs.Commands.{command_in, command_named}
 use Rattle.number_words.specs.Numbers.{number_in}
 use Rattle.viewer_program.specs.declared.plays.TheConstants.{GREATEST_BUDGET}
-use Rattle.viewer_program.specs.Playing.{PlaySeen, with_budget, budgets_in, play_in, play_with, wide_play_with}
+use Rattle.viewer_program.specs.Playing.{PlaySeen, with_budget, budgets_in, play_in, play_named, play_with, wide_play_with, live_play_in}
 use Rattle.strip_laws.specs.declared.limits.TheConstants.{MOST_COLUMNS}
 use Rattle.viewer_program.specs.declared.strips.StripCommand.{StripCommand}
 use Rattle.viewer_program.specs.declared.strips.StripCommand.TheVariants.{Make, Bench}
@@ -51,7 +51,37 @@ no_play (a ∷ b ∷ words) command is =
     ap (λ (t : Bool). if t then play_with b (Some 1) words else if bytes_eq a (codes "playw") then wide_play_with b words else no_seen) (is_another a b words command (codes "play") is (nothing (length b == 0)))
     ∙ ap (λ (t : Bool). if t then wide_play_with b words else no_seen) (is_another a b words command (codes "playw") is (nothing (length b == 0)))
 
--- nor are they of a command over a strip
+-- nor those of a driver's run
+pub no_live : (words : List (List ℕ)) (command : FileCommand) → command_in words ≡ Some command → live_play_in words ≡ None
+no_live [] command is = refl
+no_live (a ∷ []) command is = refl
+no_live (a ∷ b ∷ words) command is =
+    ap (λ (t : Bool). if t then play_with b (Some 1) words else no_seen) (is_another a b words command (codes "live") is (nothing (length b == 0)))
+
+-- the words of a play are none of a driver's run
+pub no_live_play : (words : List (List ℕ)) (play : PlaySeen) → play_in words ≡ Some play → live_play_in words ≡ None
+no_live_play [] play is = refl
+no_live_play (a ∷ []) play is = refl
+no_live_play (a ∷ b ∷ words) play is = by_test (bytes_eq a (codes "live")) refl
+  where
+    by_test : (t : Bool) → bytes_eq a (codes "live") ≡ t → (if t then play_with b (Some 1) words else no_seen) ≡ no_seen
+    by_test true same =
+        let e : no_seen ≡ Some play = ap (λ (w : List ℕ). play_named w b words) (sym ((bytes_eq-Decides a (codes "live")).0 same)) ∙ is in
+        absurd cc
+    by_test false differ = refl
+
+none_either : (t : Bool) → (if t then no_seen else no_seen) ≡ no_seen
+none_either true = refl
+none_either false = refl
+
+-- those of a driver's run are none of a command over a strip
+pub no_strip_live : (words : List (List ℕ)) (play : PlaySeen) → live_play_in words ≡ Some play → strip_command_in words ≡ None
+no_strip_live [] play is = refl
+no_strip_live (a ∷ []) play is = refl
+no_strip_live (a ∷ b ∷ []) play is = let e : no_seen ≡ Some play = sym (none_either (bytes_eq a (codes "live"))) ∙ is in absurd cc
+no_strip_live (a ∷ b ∷ c ∷ words) play is = refl
+
+-- the words of a command over a file are none of one over a strip
 pub no_strip : (words : List (List ℕ)) (command : FileCommand) → command_in words ≡ Some command → strip_command_in words ≡ None
 no_strip [] command is = refl
 no_strip (a ∷ []) command is = refl

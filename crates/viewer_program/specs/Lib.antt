@@ -15,4 +15,5 @@ pub mod Promises
 pub mod PlayRuns
 pub mod Loading
 pub mod PlayEnds
+pub mod LiveEnds
 pub mod StillEnds

@@ -1,4 +1,4 @@
--- What the words of `play` and `playw` ask for.
+-- What the words of `play`, `playw` and `live` ask for.
 use Rattle.std.specs.Prelude.{◌≡◌, ℕ, ◌≤◌, ◌==◌, ◌||◌, nat_lt, List, [], ◌∷◌, length, Option, Some, None, codes, bytes_eq, if◌then◌else◌}
 use Rattle.tier_model.specs.declared.turns.TheConstants.{MOST_WIDTH}
 use Rattle.tier_model.specs.Tiers.{IsWidth}
@@ -60,3 +60,11 @@ play_named first name words =
 abbrev pub play_in : List (List ℕ) → Option PlaySeen
 play_in (first ∷ name ∷ words) = play_named first name words
 play_in others = None
+
+-- the run that a driver's words ask for: those of a play behind another first word
+abbrev pub live_named : List ℕ → List ℕ → List (List ℕ) → Option PlaySeen
+live_named first name words = if bytes_eq first (codes "live") then play_with name (Some 1) words else None
+
+abbrev pub live_play_in : List (List ℕ) → Option PlaySeen
+live_play_in (first ∷ name ∷ words) = live_named first name words
+live_play_in others = None

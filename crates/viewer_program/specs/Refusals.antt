@@ -8,6 +8,8 @@ use Rattle.file_convert.specs.declared.refusals.ConvertRefusal.TheVariants as co
 use Rattle.cache_chain.specs.declared.refusals.StartRefusal.{StartRefusal}
 use Rattle.cache_chain.specs.declared.refusals.StartRefusal.TheVariants as starts
 use Rattle.std.specs.Prelude.{Result, Ok, Err}
+use Rattle.live_machine.specs.declared.refusals.DriveRefusal.{DriveRefusal}
+use Rattle.live_machine.specs.declared.refusals.DriveRefusal.TheVariants as drives
 use Rattle.view_machine.specs.declared.refusals.RunRefusal.{RunRefusal}
 use Rattle.view_machine.specs.declared.refusals.RunRefusal.TheVariants as runs
 use Rattle.view_script.specs.declared.refusals.ScriptRefusal.{ScriptRefusal}
@@ -51,3 +53,10 @@ abbrev pub run_status : {T : Type 0} → Result T RunRefusal → Status
 run_status (Ok x) = statuses.Ok
 run_status (Err runs.WriteFault) = statuses.WriteFault
 run_status (Err runs.Memory) = Memory
+
+-- so does driving
+abbrev pub drive_status : {T : Type 0} → Result T DriveRefusal → Status
+drive_status (Ok x) = statuses.Ok
+drive_status (Err drives.ReadFault) = ReadFault
+drive_status (Err drives.WriteFault) = statuses.WriteFault
+drive_status (Err drives.Memory) = Memory

@@ -12,9 +12,10 @@ use Rattle.viewer_program.specs.declared.strips.StripCommand.{StripCommand}
 use Rattle.viewer_program.specs.Answers.{IsTextOf, IsOfAccepted, IsTextOfKind}
 use Rattle.viewer_program.specs.Commands.{command_in, name_in}
 use Rattle.viewer_program.specs.Endings.{StopsAt, CanStop, Ends, IsChange, IsQuiet}
+use Rattle.viewer_program.specs.LiveEnds.{LiveEnds}
 use Rattle.viewer_program.specs.Outside.{OutsideSeen}
 use Rattle.viewer_program.specs.PlayEnds.{PlayEnds, IsMissing}
-use Rattle.viewer_program.specs.Playing.{play_in}
+use Rattle.viewer_program.specs.Playing.{play_in, live_play_in}
 use Rattle.viewer_program.specs.Strips.{strip_command_in, IsStripOutput, IsForMemory}
 use Rattle.viewer_program.specs.Told.{named_bytes}
 use Rattle.viewer_program.specs.WideTold.{IsBehindLoads}
@@ -50,18 +51,22 @@ pub record StripEnds (command : StripCommand) (before after : OutsideSeen) (stat
 pub record StillEnds (words : List (List ℕ)) (before after : OutsideSeen) (status : Status) : Type 0 where
   -- the words are no command exactly where the status is Usage, and then nothing was touched
   pub usage : (status ≡ statuses.Usage)
-      ↔ (IsNone (command_in words) × IsNone (play_in words) × IsNone (strip_command_in words))
+      ↔ (IsNone (command_in words) × IsNone (play_in words) × IsNone (live_play_in words) × IsNone (strip_command_in words))
   pub idle : status ≡ statuses.Usage → after ≡ before
   -- else they are one of these
   pub commands : IfSome (command_in words) (λ command. CommandEnds command (name_in words) before after status)
   pub plays : IfSome (play_in words) (λ play. PlayEnds play (name_in words) before after status)
+  pub lives : IfSome (live_play_in words) (λ play. LiveEnds play (name_in words) before after status)
   pub strips : IfSome (strip_command_in words) (λ command. StripEnds command before after status)
   -- a play whose file is missing doesn't read its script
   pub missing : IfSome (play_in words) (λ _.
       LacksName before.store.files (name_in words) → IsMissing before after status)
-  -- only a play reads the source, at most to one byte past the most that a script has
-  pub unread : IsNone (play_in words) → after.source ≡ before.source
-  pub reads : ReadsAtMost (MOST_SCRIPT + 1) before.source.rest after.source.rest
+  -- nor does a driver's run read a line then
+  pub missing_live : IfSome (live_play_in words) (λ _.
+      LacksName before.store.files (name_in words) → IsMissing before after status)
+  -- only a play and a driver's run read the source, a play at most to one byte past the most that a script has
+  pub unread : IsNone (play_in words) → IsNone (live_play_in words) → after.source ≡ before.source
+  pub reads : IsNone (live_play_in words) → ReadsAtMost (MOST_SCRIPT + 1) before.source.rest after.source.rest
   -- a change is told with a fault that the patch's body can have
   pub changed : IsChange status
   -- a write fault comes only where the sink failed

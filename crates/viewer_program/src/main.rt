@@ -6,6 +6,7 @@
 mod commands;
 mod converts;
 mod faults;
+mod living;
 mod meshes;
 mod opening;
 mod outputs;
@@ -35,6 +36,7 @@ fn run_program(rt: &HostRuntime) -> Result<Status, AllocError> {
         Err(status) => return Ok(status),
     };
     let mut store = ReadAhead::new(rt.alloc(), FolderStore::new(rt, rt.alloc())?);
+    // Neither stream has a buffer: a driver gets its answer before it sends the next line.
     let mut script = StdSource::new(rt.stdin());
     let mut sink = StdSink::new(rt.stdout());
     Ok(run_still(rt.alloc(), &words, &mut store, &mut script, &mut sink))

@@ -1,11 +1,11 @@
-//! What `play` and `playw` ask for.
+//! What `play`, `playw` and `live` ask for.
 
 use arrayvec::ArrayVec;
 use std::marker::Model;
 
 mod reading;
 
-pub use reading::play_of;
+pub use reading::{live_of, play_of};
 
 /// The greatest budget of a tier, in bytes.
 pub const GREATEST_BUDGET: u64 = 1_099_511_627_776;

@@ -1,12 +1,13 @@
 //! Refusals as statuses.
 
 ghost use Rattle.std.specs.Prelude.{◌≡◌};
-ghost use Rattle.viewer_program.specs.Refusals.{check_status, load_status, convert_status, start_status, script_status, run_status};
+ghost use Rattle.viewer_program.specs.Refusals.{check_status, load_status, convert_status, start_status, script_status, run_status, drive_status};
 
 use body_loads::LoadRefusal;
 use cache_chain::StartRefusal;
 use dag_check::CheckRefusal;
 use file_convert::ConvertRefusal;
+use live_machine::DriveRefusal;
 use text_model::Status;
 use view_machine::RunRefusal;
 use view_script::ScriptRefusal;
@@ -74,5 +75,17 @@ pub fn status_of_run(ran: Result<(), RunRefusal>) -> Status
         Ok(()) => Status::Ok,
         Err(RunRefusal::WriteFault) => Status::WriteFault,
         Err(RunRefusal::Memory) => Status::Memory,
+    }
+}
+
+/// The status with which driving ends.
+pub fn status_of_drive(drove: Result<(), DriveRefusal>) -> Status
+    ensures { result ≡ drive_status drove }
+{
+    match drove {
+        Ok(()) => Status::Ok,
+        Err(DriveRefusal::ReadFault) => Status::ReadFault,
+        Err(DriveRefusal::WriteFault) => Status::WriteFault,
+        Err(DriveRefusal::Memory) => Status::Memory,
     }
 }

@@ -17,9 +17,10 @@ ghost use Rattle.viewer_program.specs.Told.{named_bytes};
 ghost use Rattle.viewer_program.specs.WideTold.{IsBehindLoads};
 
 use crate::commands::{FileCommand, command_of, file_name};
+use crate::living::run_live;
 use crate::outputs::{Output, command_output};
 use crate::playing::run_play;
-use crate::plays::play_of;
+use crate::plays::{live_of, play_of};
 use crate::strips::{run_strip_command, strip_command_of};
 use patch_file::write_file;
 use std::alloc::Global;
@@ -97,7 +98,7 @@ fn run_without_file<O: Sink>(alloc: Global, words: &[String], sink: &mut O) -> S
 
 /// Runs the command that the words name, on one thread. The words don't include the program's name.
 ///
-/// `docs/TEXTS.md` has the statuses. `play` and `playw` read the script from the source.
+/// `docs/TEXTS.md` has the statuses. `play` and `playw` read the script from the source, `live` a driver's lines.
 pub fn run_still<S: Store, I: Source, O: Sink>(
     alloc: Global,
     words: &[String],
@@ -116,7 +117,10 @@ pub fn run_still<S: Store, I: Source, O: Sink>(
         Some(command) => run_command(alloc, &command, file_name(words), store, sink),
         None => match play_of(words) {
             Some(play) => run_play(alloc, &play, file_name(words), store, script, sink),
-            None => run_without_file(alloc, words, sink),
+            None => match live_of(words) {
+                Some(play) => run_live(alloc, &play, file_name(words), store, script, sink),
+                None => run_without_file(alloc, words, sink),
+            },
         },
     }
 }

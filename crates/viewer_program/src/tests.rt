@@ -24,6 +24,7 @@ mod failures;
 mod files;
 mod graphs;
 mod large;
+mod living;
 mod making;
 mod picking;
 mod playing;

@@ -1,8 +1,8 @@
-//! Reading the words of `play` and `playw`.
+//! Reading the words of `play`, `playw` and `live`.
 
 ghost use Rattle.std.specs.Prelude.{◌≡◌, ◌≤◌, length, map, string_bytes, Some, option_map, IfSome};
 ghost use Rattle.tier_model.specs.Tiers.{IsWidth};
-ghost use Rattle.viewer_program.specs.Playing.{budgets_in, width_in, play_with, wide_play_with, play_in};
+ghost use Rattle.viewer_program.specs.Playing.{budgets_in, width_in, play_with, wide_play_with, play_in, live_play_in};
 
 use super::{GREATEST_BUDGET, MOST_TIERS, Play};
 use arrayvec::ArrayVec;
@@ -18,6 +18,19 @@ pub fn play_of(words: &[String]) -> Option<Play>
         [first, name, numbers @ ..] => match first.as_str() {
             "play" => play_with(name.as_str(), Some(1), numbers),
             "playw" => wide_play_with(name.as_str(), numbers),
+            _ => None,
+        },
+        _ => None,
+    }
+}
+
+/// The run that a driver's words ask for; none where they ask for none. They don't include the program's name.
+pub fn live_of(words: &[String]) -> Option<Play>
+    ensures { result ≡ live_play_in (map string_bytes words.now) }
+{
+    match words {
+        [first, name, numbers @ ..] => match first.as_str() {
+            "live" => play_with(name.as_str(), Some(1), numbers),
             _ => None,
         },
         _ => None,
