@@ -1,0 +1,13 @@
+pub mod Counts
+pub mod CountLaws
+pub mod FarCalls
+pub mod FarLaws
+pub mod MemoryLinks
+pub mod WaitingLaws
+pub mod Midway
+pub mod MidwayLaws
+pub mod SendLaws
+pub mod ReceiveLaws
+pub mod MemoryLaws
+pub mod StepLaws
+pub mod BarrenLaws
