@@ -1,5 +1,5 @@
 #!/usr/bin/env python3
-"""Makes the pictures of runs in docs/pictures: that of README's example, and that of a flight over real heights.
+"""Makes the pictures in docs/pictures: of the tutorial's run, of a flight over real heights, and of what two eyes see.
 
     tools/make_pictures.py BMTG_IMPORT
 
@@ -48,16 +48,36 @@ def chart(text, file, budgets, title, target):
     print(f"{target.relative_to(TOP)}: {len(drawn)} bytes")
 
 
+EYES = [("-24000", "-16000"), ("24000", "12000")]
+
+
+def two_eyes(importer, heights, folder):
+    """What two sessions see of the heights at once, each from its place."""
+    file, target = folder / "eyes.bmtg", TOP / "docs" / "pictures" / "two_eyes.png"
+    subprocess.run([importer, "--quiet", "--version", "2", "--triangles", "64", heights, file], check=True)
+    lines = [line for session, (x, y) in enumerate(EYES, 1)
+             for line in (f"open {session}", f"view {session} {x} {y} 1500 935 1000 100000")]
+    text = ran(["play", str(file), "6000000"], "\n".join([*lines, "settle", "frame 1", "frame 2", ""]).encode())
+    words = ["/usr/bin/python3", TOP / "tools" / "frames_picture.py", target]
+    subprocess.run([*words, *(word for eye in EYES for word in ("--eye", *eye))], input=text, check=True)
+
+
+def heights_mesh(folder):
+    """The heights as a mesh, in a file of the folder."""
+    mesh, heights = folder / "heights.ply", TOP / "tools" / "import" / "heights_to_ply.py"
+    subprocess.run(["/usr/bin/python3", heights, "--step", "80", HEIGHTS, mesh], check=True)
+    return mesh
+
+
 def main(importer):
     pictures = TOP / "docs" / "pictures"
     sample = TOP / "samples" / "square.bmtg"
     text = ran(["play", str(sample), "144"], (TOP / "samples" / "two_sessions.txt").read_bytes())
-    chart(text, sample, ["144"], "README's example: play samples/square.bmtg 144", pictures / "example_run.svg")
+    chart(text, sample, ["144"], "The tutorial's run: play samples/square.bmtg 144", pictures / "example_run.svg")
     with tempfile.TemporaryDirectory() as folder:
-        mesh, file = pathlib.Path(folder) / "heights.ply", pathlib.Path(folder) / "heights.bmtg"
-        heights = TOP / "tools" / "import" / "heights_to_ply.py"
-        subprocess.run(["/usr/bin/python3", heights, "--step", "80", HEIGHTS, mesh], check=True)
+        mesh, file = heights_mesh(pathlib.Path(folder)), pathlib.Path(folder) / "heights.bmtg"
         subprocess.run([importer, "--quiet", "--version", "2", "--triangles", "256", mesh, file], check=True)
+        two_eyes(importer, mesh, pathlib.Path(folder))
         text = ran(["play", str(file), *BUDGETS], flight())
         chart(text, file, BUDGETS, "A flight over 344 by 403 heights, with a second viewer in its middle third",
               pictures / "terrain_flight.svg")
