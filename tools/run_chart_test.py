@@ -11,7 +11,7 @@ HERE = pathlib.Path(__file__).resolve().parent
 SQUARE = HERE.parent / "samples" / "square.bmtg"
 FRONT = "cut 0\ntries{}\npatches 0\n"
 
-# Two frames of README's example with the settling between them, whose loads docs/MODEL.md tells turn by turn.
+# Two frames of the tutorial's run with the settling between them, whose loads docs/MODEL.md tells turn by turn.
 PLAY = ("open 1\nview 1\nframe 1 1 nodes 1 patches 1 triangles 2 open 4\n" + FRONT.format(" 1:0")
         + "0 0 0 4 0 0 4 4 0\n0 0 0 4 4 0 0 4 0\nturn 0 reserve 1\nturn 0 got 1\nturn 0 commit 1\nturn 0 idle\n"
         "frame 1 2 nodes 2 patches 1 triangles 4 open 4\n" + FRONT.format(" 1:1") + "0 0 0 4 0 0 2 2 0\n" * 4

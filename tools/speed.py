@@ -144,10 +144,27 @@ def moving_view():
     return "open 1\n" + "".join(places)
 
 
-def tell_play(program, folder, words, name, text):
+def shown_views(shows):
+    """A driver fetches the whole strip, and then looks so often, each time from another place."""
+    looks = "".join(f"view 1 {2 * COLUMNS + i % 7} 2 0 65536 1 {ALL}\nshow 1\n" for i in range(shows))
+    return f"open 1\nview 1 {2 * COLUMNS} 2 0 65536 1 {ALL}\nturns 1000000\n" + looks
+
+
+def given_bodies(bodies):
+    """A driver fetches the whole strip, locks it all, and asks for so many bodies."""
+    return shown_views(1) + "".join(f"body {i % COLUMNS}\n" for i in range(bodies))
+
+
+def long_drive(shows):
+    """A driver's view goes to and fro over a short strip, with turns and a frame at each place."""
+    places = (f"view 1 {397 * i % 1024} 2 0 300 1 {700 + 200 * (i % 3)}\nturns 60\nshow 1\n" for i in range(shows))
+    return "open 1\n" + "".join(places)
+
+
+def tell_play(program, folder, words, name, text, command="play"):
     script = folder / "script.txt"
     script.write_text(text)
-    tell(program, ["play", *words], name, str(script))
+    tell(program, [command, *words], name, str(script))
 
 
 def time_strip(program, folder):
@@ -174,6 +191,19 @@ def time_strip(program, folder):
         tell_play(program, folder, [name, half], f"play, {swings} settlings of half the strip", swinging_view(swings))
 
 
+def time_driver(program, folder):
+    whole, strip, short = str(300 * COLUMNS), str(folder / "strip.bmtg"), folder / "short.bmtg"
+    short.write_bytes(subprocess.run([program, "make", "256"], stdout=subprocess.PIPE, check=True).stdout)
+    for shows in (0, 100):
+        tell_play(program, folder, [strip, whole], f"live, the strip and {shows} shows", shown_views(shows), "live")
+    for bodies in (0, 100_000):
+        tell_play(program, folder, [strip, whole], f"live, the strip and {bodies} bodies", given_bodies(bodies), "live")
+    tell_play(program, folder, [strip, whole, whole], "live, the strip through two tiers", shown_views(0), "live")
+    for shows in (100, 10_000):
+        tell_play(program, folder, [str(short), "30000", "45000"], f"live, {shows} shows over a short strip",
+                  long_drive(shows), "live")
+
+
 def time_file(program, words):
     name = pathlib.Path(words[0]).name
     tell(program, ["check", words[0]], f"check, {name}")
@@ -197,6 +227,7 @@ def main(words):
     program = str(pathlib.Path(words[0]).resolve())
     with tempfile.TemporaryDirectory() as made:
         time_strip(program, pathlib.Path(made))
+        time_driver(program, pathlib.Path(made))
         for at in range(1, len(words), 7):
             time_file(program, words[at:at + 7])
         time_growth(program, pathlib.Path(made))
